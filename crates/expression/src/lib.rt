@@ -1,0 +1,2 @@
+//! Layouts: regular expressions, written as tables of nodes.
+pub mod raw;
