@@ -23,7 +23,6 @@ class-of Midnight = 2
 abbrev pub mark-code : Mark → ℕ
 mark-code m = 4 * m .number + class-of (m .stamp)
 
-
 -- The stamp class with this number.
 abbrev pub stamp-classed : ℕ → Option Stamp
 stamp-classed c =

@@ -1,5 +1,6 @@
 -- Regular expressions over the codes of letters.
 use Prim.Native.Nat.{ℕ}
+use mathlib.Core.Bool.{Bool, true, false, _&&_, _||_}
 
 pub data Expr : Type 0 where
   -- one letter, by its code
@@ -9,3 +10,11 @@ pub data Expr : Type 0 where
   pair : Expr → Expr → Expr
   or : Expr → Expr → Expr
   star : Expr → Expr
+
+-- Is the empty word a word of the expression?
+abbrev pub admits-empty : Expr → Bool
+admits-empty (letter c) = false
+admits-empty empty = true
+admits-empty (pair x y) = admits-empty x && admits-empty y
+admits-empty (or x y) = admits-empty x || admits-empty y
+admits-empty (star x) = true

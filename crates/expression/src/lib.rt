@@ -1,2 +1,10 @@
 //! Layouts: regular expressions, written as tables of nodes.
+pub mod check;
+pub mod fault;
+pub mod laws;
+pub mod layout;
+pub mod node;
 pub mod raw;
+pub mod reads;
+#[cfg(test)]
+mod tests;

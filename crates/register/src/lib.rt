@@ -1,0 +1,4 @@
+//! The register: up to sixteen layouts of one letter kind, and the calls on them.
+pub mod calls;
+pub mod refusal;
+pub mod register;

@@ -1,0 +1,12 @@
+pub mod Built
+pub mod Cuts
+pub mod Cutting
+pub mod Judge
+pub mod Only
+pub mod Same
+pub mod Sections
+pub mod Steps
+pub mod Whole
+pub mod Wide
+pub mod Unique
+pub mod Transcripts

@@ -1,0 +1,7 @@
+use borrow.Author.Needs.{needs}
+use Rattle.script.proofs.Cuts.{no-more}
+use Rattle.script.proofs.excerpt.is_end.Needs as need
+
+pub returns : need.returns
+returns c =
+    record { none = λ t. no-more (c .args .text .now) (c .args .from) (search needs); past = search needs; before = search needs }

@@ -1,0 +1,8 @@
+use mathlib.Core.List.{_∷_}
+use Rattle.script.specs.Machine.{the}
+use Rattle.script.proofs.Steps.{unfit, no-end}
+use Rattle.script.proofs.line.end.Needs as need
+
+pub returns-in-rest : need.returns-in-rest
+returns-in-rest c =
+    λ d left k. unfit d (c .args .line .now) (c .args .at) (c .take-token-t .result) (c .take-token-t .ensures) left (the 10 ∷ k) (no-end d _ _ k (c .in-rest .not-End))

@@ -1,0 +1,14 @@
+pub mod Answers
+pub mod Bytes
+pub mod Denoted
+pub mod Dialects
+pub mod Faults
+pub mod Forms
+pub mod Law
+pub mod Lexing
+pub mod Lines
+pub mod Machine
+pub mod Parts
+pub mod Reading
+pub mod Running
+pub mod Tokens
