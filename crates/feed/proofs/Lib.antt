@@ -1,0 +1,3 @@
+mod GatherLaws
+mod LineLaws
+mod TableLaws
