@@ -5,3 +5,23 @@ mod Laying
 mod Muting
 mod Judging
 pub mod Meaning
+pub mod Letters
+pub mod Members
+pub mod RankLaws
+pub mod Strict
+pub mod Total
+pub mod Firsts
+pub mod EmptyTrees
+pub mod Beginnings
+pub mod Greedy
+pub mod FirstTree
+pub mod Decoding
+pub mod Unroll
+pub mod RouteOrder
+pub mod TreeTheorems
+pub mod WorkedLines
+pub mod Placing
+pub mod Walking
+pub mod Finishing
+pub mod PlaceRange
+pub mod PlaceTheorems

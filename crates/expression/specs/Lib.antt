@@ -6,3 +6,17 @@ pub mod Fitted
 pub mod Checking
 pub mod Layouts
 pub mod Verdicts
+pub mod Trees
+pub mod Words
+pub mod Turns
+pub mod Order
+pub mod Optional
+pub mod Members
+pub mod Tuples
+pub mod Search
+pub mod Routes
+pub mod TreeTheorems
+pub mod Places
+pub mod Walks
+pub mod PlaceTheorems
+pub mod WorkedLines

@@ -1,5 +1,5 @@
 -- What is read of a form, from its parts.
-use Prim.Native.Nat.{ℕ, suc, _+_, _-_, _<_, _≤_}
+use Prim.Native.Nat.{ℕ, _+_, _-_}
 use mathlib.Core.Path.{_≡_, refl, ap, sym, _∙_, subst}
 use mathlib.Core.Logic.{_⊎_, inl, inr}
 use mathlib.Core.List.{List, [], _∷_, _++_, map, append-assoc}
@@ -7,7 +7,7 @@ use mathlib.Core.Bool.{cond}
 use native.Mathlib.Omega.{arith}
 use borrow.Author.Tests.{eq-eqb, ne-eqb}
 use Rattle.std.specs.declared.option.Option.{Option}
-use Rattle.std.specs.declared.option.Option.the-variants.{Some, None}
+use Rattle.std.specs.declared.option.Option.the-variants.{Some}
 use Rattle.std.specs.Results.{Cases}
 use Rattle.std.specs.declared.result.Result.{Result}
 use Rattle.expression.specs.Expressions as expression
@@ -18,7 +18,7 @@ use Rattle.script.specs.Denoted.{lettered, joined, repeated, denoted, postfix}
 use Rattle.script.specs.Dialects.{Dialect, marks, bytes, dialect, mark-word, code-named}
 use Rattle.script.specs.Forms.{Brackets, mark, empty, pair, or, star, bracketed, nodes, Low, is-none, is-star}
 use Rattle.script.specs.Lexing.{ahead}
-use Rattle.script.specs.Machine.{Want, an-expr, more, the, going, walk}
+use Rattle.script.specs.Machine.{Want, an-expr, the, going, walk}
 use Rattle.script.specs.Reading.{name-bytes, joint-of, Told, Numbered, Uncounted, Sealed, Unsealed, Lettered, Unlettered, Passed, Headed, Read}
 use Rattle.script.specs.Tokens.{bare, word, number, opening, closing}
 use Rattle.script.specs.declared.fault.FormFault.{FormFault}
@@ -43,9 +43,6 @@ unlettered-first bytes line i f u left k = u bytes left 0 [] k
 
 module _ (line : List ℕ) (i : ℕ) (n : Number) (h : Numbered line i n) where
   -- A record number and a class, of which the code is told.
-  pub unlettered-class : (f : FormFault) → Uncounted line (n .at) f → Unlettered marks line i f
-  unlettered-class f u left k = subst (Told f) (sym (h .walks marks left 1 [] k)) (u marks left 0 (n .value ∷ []) k)
-
   module _ (c : Number) (g : Numbered line (n .at) c) (o : Option ℕ) (e : o ≡ code-named marks (n .value ∷ (c .value ∷ []))) where
     pub lettered-mark : (l : Letter) → Sealed line (c .at) o l → Lettered marks line i l
     lettered-mark l s =

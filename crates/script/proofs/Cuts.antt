@@ -1,5 +1,5 @@
 -- Cutting a text into lines.
-use Prim.Native.Nat.{ℕ, zero, suc, _+_, _-_, _<_, _≤_, min}
+use Prim.Native.Nat.{ℕ, _+_, _-_, _<_, _≤_, min}
 use mathlib.Core.Path.{_≡_, refl, ap, sym, _∙_}
 use mathlib.Core.Logic.{_⊎_, inl, inr}
 use mathlib.Core.List.{List, [], _∷_, _++_}
@@ -59,11 +59,6 @@ no-more text i h = ap lines (none-left text i h)
 -- From the end of the text on and from one past it, nothing is left.
 pub same-end : (text : List ℕ) (x : List ℕ) (j : ℕ) → length text ≤ j → x ∷ lines (drop (j + 1) text) ≡ x ∷ lines (drop j text)
 same-end text x j h = ap (λ ls. x ∷ ls) (no-more text (j + 1) (omega arith) ∙ sym (no-more text j h))
-
--- The line with the number n after one that was cut off.
-pub line-after : (x : List ℕ) (ls : List (List ℕ)) (n : ℕ) → 0 < n → getD (x ∷ ls) n [] ≡ getD ls (n - 1) []
-line-after x ls zero h = absurd (omega arith)
-line-after x ls (suc n) h = ap (λ m. getD ls m []) (let z : n ≡ suc n - 1 = omega arith in z)
 
 -- Where the line after one that ends at j begins.
 abbrev pub After : List ℕ → ℕ → ℕ → Type 0

@@ -5,21 +5,19 @@ use mathlib.Core.Logic.{_⊎_, inl, inr}
 use mathlib.Core.List.{List, [], _∷_, _++_}
 use mathlib.Core.Bool.{Bool, true, false, cond, _&&_, _||_}
 use native.Mathlib.Omega.{arith}
-use lib.Dec.{eqb, leb, ltb}
+use lib.Dec.{eqb, leb}
 use lib.ListN.{length, take, drop, getD, take-append-drop}
 use borrow.Author.Tests.{leb-true, lt-leb, eqb-true, ne-eqb, lt-ltb, le-ltb}
 use Rattle.std.proofs.shelf.Lists.{take-more}
 use Rattle.std.proofs.shelf.Tests.{and-parts}
-use Rattle.std.specs.declared.result.Result.{Result}
 use Rattle.std.specs.declared.result.Result.the-variants.{Ok, Err}
 use Rattle.script.specs.Parts.{part}
-use Rattle.script.specs.Tokens.{sign, finish, Placed, at, Begun, idle, begun, letter, digit, mark, belongs, run-token, lexed, decimal-on, decimal}
+use Rattle.script.specs.Tokens.{sign, at, idle, begun, letter, digit, mark, belongs, run-token, lexed, decimal-on, decimal}
 use Rattle.script.specs.Lexing.{ahead, begins, Took, valued}
-use Rattle.script.specs.declared.fault.TokenFault.{TokenFault}
 use Rattle.script.specs.declared.fault.TokenFault.the-variants.{TooLarge}
 use Rattle.script.specs.declared.token.Run.{Run}
 use Rattle.script.specs.declared.token.Run.the-variants.{Letters, Digits}
-use Rattle.script.specs.declared.token.Sort.the-variants.{Open, Close, Dash, Name, Digits as DigitsSort, End}
+use Rattle.script.specs.declared.token.Sort.the-variants.{Open, Close, Dash, End}
 use Rattle.script.proofs.Sections.{split, none-left, part-one, part-more}
 
 -- A byte that begins no token is passed over.

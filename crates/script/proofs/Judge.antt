@@ -15,7 +15,7 @@ use Rattle.script.specs.Faults.{place}
 use Rattle.script.specs.Forms.{is-lodge}
 use Rattle.script.specs.Law.{Begins, opens, Wrong, misfit, too-large, too-many, no-letter, Clean, Leftmost}
 use Rattle.script.specs.Machine as machine
-use Rattle.script.specs.Machine.{Want, an-expr, a-name, more, the, a-head, name-of, wanted, after-name, head-of, headed, after-head, fits, start, Step, on, off, large, unnamed, odd, opening-node, counted, limited, fitted, step, State, going, fault, landed, next, walk, judged}
+use Rattle.script.specs.Machine.{Want, an-expr, a-name, more, the, a-head, name-of, wanted, after-name, head-of, headed, after-head, fits, start, Step, on, off, large, unnamed, odd, opening-node, counted, fitted, step, State, going, fault, landed, walk, judged}
 use Rattle.script.specs.Reading.{name-bytes}
 use Rattle.script.specs.Tokens.{Token, sign, word, number, opening, closing, same, Placed, bare}
 use Rattle.script.specs.declared.fault.FormFault.{FormFault}
@@ -65,9 +65,6 @@ plain-top d ts a-head p = elim p [ ]
 plain-trail : (d : Dialect) (ts : List Token) (k : List Want) → Plain k → Trail d ts k
 plain-trail d ts [] p = tt
 plain-trail d ts (w ∷ k) p = (plain-top d ts w (p .0), p .1)
-
-no-open : {b : ℕ} → _≡_ {A = ℕ} b 40 → b ≡ 41 → ⊥
-no-open p q = omega arith
 
 trail-name : (d : Dialect) (ts : List Token) (x : Name) (k : List Want) → Plain k → Trail d (ts ++ word (mark-word d) ∷ []) (more (mark-size d) [] ∷ k) → (w : List ℕ) → (x ≡ Mark → w ≡ mark-word d) → Trail d (ts ++ word w ∷ []) (wanted d x k)
 trail-name d ts Mark k p m w e = rw (e refl) m

@@ -14,9 +14,9 @@ use Rattle.script.specs.Bytes.{Known}
 use Rattle.script.specs.Denoted.{lettered, joined, repeated, denoted, Within}
 use Rattle.script.specs.Dialects.{Dialect, marks, bytes, mark-size, code-named}
 use Rattle.script.specs.Forms.{Brackets, mark, empty, pair, or, star, Written, lodge, bracketed, spelled, nodes, All-low, Low}
-use Rattle.script.specs.Law.{Clean, Leftmost, Refused, Refusal}
+use Rattle.script.specs.Law.{Clean, Refused, Refusal}
 use Rattle.script.specs.Machine as machine
-use Rattle.script.specs.Machine.{Want, an-expr, a-name, more, the, a-head, wanted, after-name, start, Step, on, off, unnamed, fitted, step, State, going, fault, landed, walk, judged}
+use Rattle.script.specs.Machine.{Want, an-expr, a-name, more, the, wanted, after-name, start, Step, on, off, unnamed, fitted, step, going, fault, landed, walk, judged}
 use Rattle.script.specs.Reading.{name-bytes, Told}
 use Rattle.script.specs.Tokens.{Token, word, number, opening, closing, finish, Placed, bare, tokens}
 use Rattle.script.specs.declared.fault.TokenFault.the-variants.{BadByte, TooLarge}

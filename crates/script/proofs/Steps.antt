@@ -1,27 +1,24 @@
 -- One token's step of the reader.
-use Prim.Native.Nat.{ℕ, zero, suc, pred, _+_, _-_, _<_, _≤_}
+use Prim.Native.Nat.{ℕ, suc, pred, _+_, _-_, _<_}
 use mathlib.Core.Path.{_≡_, refl, ap, sym, _∙_, subst}
 use mathlib.Core.List.{List, [], _∷_, _++_, map}
 use mathlib.Core.Bool.{Bool, true, false, cond}
 use native.Mathlib.Numerals.{sub-one}
 use native.Mathlib.Omega.{arith}
 use lib.Dec.{ltb}
-use lib.ListN.{length}
-use borrow.Author.Tests.{eq-eqb, ne-eqb, ltb-true, ltb-false, lt-ltb, le-ltb}
-use Rattle.std.specs.declared.option.Option.{Option}
+use borrow.Author.Tests.{eq-eqb, ne-eqb}
 use Rattle.std.specs.declared.option.Option.the-variants.{Some, None}
 use Rattle.std.specs.declared.result.Result.the-variants.{Ok, Err}
-use Rattle.script.specs.Dialects.{Dialect, marks, bytes, mark-word, code-named}
+use Rattle.script.specs.Dialects.{Dialect}
 use Rattle.script.specs.Lexing.{ahead, meaning, meant, onward, Took, valued}
 use Rattle.script.specs.Machine as machine
-use Rattle.script.specs.Machine.{Want, an-expr, a-name, more, the, a-head, name-of, wanted, after-name, head-of, headed, after-head, fits, start, off, on, unnamed, counted, limited, fitted, landed, State, going, fault, walk, judged}
+use Rattle.script.specs.Machine.{Want, an-expr, a-name, more, the, a-head, name-of, wanted, after-name, head-of, headed, after-head, fits, start, off, on, unnamed, limited, fitted, landed, going, fault, walk, judged}
 use Rattle.script.specs.Parts.{part}
-use Rattle.script.specs.Reading.{name-bytes, head-bytes, Told, Halted, Passed, Ended, Numbered, Uncounted, Sealed, Unsealed, Headed, Stuck, Led}
+use Rattle.script.specs.Reading.{Told, Uncounted, Unsealed, Headed, Led}
 use Rattle.script.specs.Tokens as spec
-use Rattle.script.specs.Tokens.{Placed, bare, word, number, sign, opening, closing, decimal}
+use Rattle.script.specs.Tokens.{bare, word, opening, decimal}
 use Rattle.script.specs.declared.fault.TokenFault.{TokenFault}
-use Rattle.script.specs.declared.fault.TokenFault.the-variants.{BadByte, TooLarge}
-use Rattle.script.specs.declared.fault.FormFault.{FormFault}
+use Rattle.script.specs.declared.fault.TokenFault.the-variants.{TooLarge}
 use Rattle.script.specs.declared.fault.FormFault.the-variants.{Token as OfToken, Misfit, TooManyNodes}
 use Rattle.script.specs.declared.name.FormName.{FormName}
 use Rattle.script.specs.declared.name.Name.{Name as Named}
@@ -29,7 +26,6 @@ use Rattle.script.specs.declared.token.Sort.{Sort}
 use Rattle.script.specs.declared.token.Sort.the-variants.{Open, Close, Dash, Name, Digits, End}
 use Rattle.script.specs.declared.token.Token.{Token}
 use Rattle.script.proofs.Judge.{walk-fault}
-use Rattle.script.proofs.Same.{never}
 use Rattle.script.proofs.Wide.{name-is, head-is}
 
 module _ (d : Dialect) (line : List ℕ) (i : ℕ) (t : Token) (h : Took line i t) where
@@ -115,21 +111,6 @@ no-head d Digits w k n = refl
 no-head d End w k n = refl
 
 module _ (line : List ℕ) (i s j : ℕ) where
-  pub closed : Took line i (taken Close s j) → Passed line i 41 j
-  closed h =
-      record {
-        within = h .within;
-        walks = λ d left k. fitting d line i (taken Close s j) h left (the 41 ∷ k) k refl;
-        tokens = bared line i (taken Close s j) h;
-      }
-
-  pub ended : Took line i (taken End s j) → Ended line i
-  ended h =
-      record {
-        walks = λ d left k. fitting d line i (taken End s j) h left (the 10 ∷ k) k refl;
-        tokens = bared line i (taken End s j) h;
-      }
-
   module _ (d : Dialect) where
     pub open-steps : Took line i (taken Open s j) → (left : ℕ) → 0 < left → (k : List Want) → walk d (going left (an-expr ∷ k)) (ahead line i) ≡ walk d (going (left - 1) (a-name ∷ k)) (ahead line j)
     open-steps h left l k =
@@ -153,40 +134,10 @@ module _ (line : List ℕ) (i s j : ℕ) where
     pub head-unfit : Took line i (taken Name s j) → head-of (part line s j) ≡ None → (left : ℕ) (k : List Want) → walk d (going left (a-head ∷ k)) (ahead line i) ≡ fault (Misfit (s + 1))
     head-unfit h e left k = unfit d line i (taken Name s j) h left (a-head ∷ k) (ap (λ o. after-head o k) e)
 
-  pub sealed : (c : ℕ) → Took line i (taken Close s j) → Sealed line i (Some c) (record { code = c; at = j })
-  sealed c h =
-      record {
-        within = h .within;
-        walks = λ d left ns k e.
-            fitting d line i (taken Close s j) h left (more 0 ns ∷ k) k refl
-            ∙ ap (λ o. walk d (landed (s + 1) (cond (unnamed o) (off Misfit) (on left k))) (ahead line j)) e;
-        tokens = bared line i (taken Close s j) h;
-        named = refl;
-      }
-
   pub unsealed : Took line i (taken Close s j) → Unsealed line i None (Misfit (s + 1))
   unsealed h d left ns k e =
       fitting d line i (taken Close s j) h left (more 0 ns ∷ k) k refl
       ∙ (ap (λ o. walk d (landed (s + 1) (cond (unnamed o) (off Misfit) (on left k))) (ahead line j)) e ∙ walk-fault d (Misfit (s + 1)) (ahead line j))
-
-  -- The value that was asked for.
-  pub counted-number : (n : ℕ) → Took line i (taken Digits s j) → Ok n ≡ valued s (decimal (part line s j)) → Numbered line i (record { value = n; at = j })
-  counted-number n h e = go (ltb 65535 (decimal (part line s j))) refl e
-    where
-      go : (b : Bool) → ltb 65535 (decimal (part line s j)) ≡ b → Ok n ≡ cond b (Err (TooLarge (s + 1))) (Ok (decimal (part line s j))) → Numbered line i (record { value = n; at = j })
-      go true l e = let z : _≡_ {A = ℕ} 0 1 = cc in absurd (omega arith)
-      go false l e =
-          let q : decimal (part line s j) ≡ n = cc in
-          let low = ltb-false 65535 (decimal (part line s j)) l in
-          record {
-            within = h .within;
-            low = omega arith;
-            walks = λ d left m ns k.
-                fitting d line i (taken Digits s j) h left (more (suc m) ns ∷ k) (more m (ns ++ decimal (part line s j) ∷ []) ∷ k) refl
-                ∙ (ap (λ b. walk d (landed (s + 1) (cond b (off machine.too-large) (on left (more m (ns ++ decimal (part line s j) ∷ []) ∷ k)))) (ahead line j)) l
-                ∙ ap (λ x. walk d (going left (more m (ns ++ x ∷ []) ∷ k)) (ahead line j)) q);
-            tokens = bared line i (taken Digits s j) h ∙ ap (λ x. number x ∷ map bare (ahead line j)) q;
-          }
 
   pub uncounted : (f : TokenFault) → Took line i (taken Digits s j) → Err f ≡ valued s (decimal (part line s j)) → Uncounted line i (OfToken f)
   uncounted f h e d left m ns k = go (ltb 65535 (decimal (part line s j))) refl e

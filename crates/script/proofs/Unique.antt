@@ -3,12 +3,11 @@ use Prim.Native.Nat.{ℕ}
 use mathlib.Core.Path.{_≡_, refl, ap, sym, _∙_, subst}
 use mathlib.Core.List.{List, [], _∷_, _++_, map, append-assoc}
 use native.Mathlib.Omega.{arith}
-use Rattle.std.specs.declared.option.Option.{Option}
 use Rattle.std.specs.declared.option.Option.the-variants.{Some}
 use Rattle.script.specs.Dialects.{Dialect}
 use Rattle.script.specs.Faults.{place}
-use Rattle.script.specs.Forms.{Brackets, mark, empty, pair, or, star, Written, lodge, bracketed}
-use Rattle.script.specs.Law.{Begins, Wrong, misfit, too-large, too-many, no-letter, Leftmost, One-fault, One-form}
+use Rattle.script.specs.Forms.{Brackets, mark, empty, pair, or, star, lodge, bracketed}
+use Rattle.script.specs.Law.{Wrong, misfit, too-large, too-many, no-letter, One-fault, One-form}
 use Rattle.script.specs.Machine.{name-of}
 use Rattle.script.specs.Reading.{name-bytes}
 use Rattle.script.specs.Tokens.{Token, sign, word, number, opening, closing, finish, Placed, bare}

@@ -1,12 +1,12 @@
 -- A line that begins with (lodge, as it is read to its end.
 use Prim.Native.Nat.{ℕ}
-use mathlib.Core.Path.{_≡_, refl, ap, sym, _∙_, subst}
+use mathlib.Core.Path.{_≡_, ap, sym, _∙_, subst}
 use mathlib.Core.List.{List, [], _∷_, _++_, map}
 use native.Mathlib.Omega.{arith}
 use lib.ListN.{length}
 use Rattle.expression.specs.declared.raw.RawNode.{RawNode}
 use Rattle.script.specs.Bytes.{Known}
-use Rattle.script.specs.Denoted.{Holds, postfix}
+use Rattle.script.specs.Denoted.{Holds}
 use Rattle.script.specs.Dialects.{Dialect}
 use Rattle.script.specs.Forms.{lodge, bracketed, is-lodge}
 use Rattle.script.specs.Law.{Accepted, Refusal}

@@ -17,7 +17,7 @@ use Rattle.script.specs.declared.name.FormName.{FormName}
 use Rattle.script.specs.declared.name.FormName.the-variants.{Lodge}
 use Rattle.script.specs.declared.name.Name.{Name}
 use Rattle.script.specs.declared.name.Name.the-variants.{Mark, Nothing, Pair, Or, Star}
-use Rattle.script.proofs.Same.{alike-refl, alike-true, same-refl, same-true, never, let-through}
+use Rattle.script.proofs.Same.{alike-true, same-refl, same-true, never, let-through}
 
 -- The names.
 pub name-is : (d : Dialect) (w : List ℕ) (x : Name) → name-of d w ≡ Some x → w ≡ name-bytes d x

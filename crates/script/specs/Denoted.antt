@@ -14,6 +14,7 @@ use Rattle.script.specs.Forms.{Brackets, mark, empty, pair, or, star, Written,
 use Rattle.script.specs.declared.form.Form.{Form}
 use Rattle.script.specs.declared.form.Form.the-variants.{Lodge}
 
+-- An expression of one letter, of two parts, and of one, where the letter and the parts are there.
 abbrev pub lettered : Option ℕ → Option Expr
 lettered (Some c) = Some (expression.letter c)
 lettered None = None

@@ -9,6 +9,7 @@ use Rattle.std.specs.declared.option.Option.the-variants.{Some, None}
 use Rattle.alphabet.specs.Codes.{byte-letter, mark-code, mark-named}
 use Rattle.alphabet.specs.declared.mark.Mark.{Mark}
 
+-- Letters are marks of records in one, and bytes in the other.
 pub data Dialect : Type 0 where
   marks : Dialect
   bytes : Dialect
@@ -27,6 +28,7 @@ abbrev pub mark-size : Dialect → ℕ
 mark-size marks = 2
 mark-size bytes = 1
 
+-- The code of a mark, where there is one.
 abbrev pub mark-coded : Option Mark → Option ℕ
 mark-coded (Some m) = Some (mark-code m)
 mark-coded None = None

@@ -19,6 +19,7 @@ pub data Brackets : Type 0 where
 pub data Written : Type 0 where
   lodge : Brackets → Written
 
+-- The names.
 abbrev pub is-none : List ℕ
 is-none = codes "none"
 
@@ -79,7 +80,7 @@ abbrev pub All-low : List ℕ → Type 0
 All-low [] = Unit {0}
 All-low (n ∷ ns) = (n ≤ 65535) × All-low ns
 
--- So are all numbers of an expression.
+-- So is each number of an expression.
 abbrev pub Low : Brackets → Type 0
 Low (mark ns) = All-low ns
 Low empty = Unit {0}

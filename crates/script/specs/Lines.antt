@@ -12,6 +12,7 @@ abbrev pub lengthened : ℕ → List (List ℕ) → List (List ℕ)
 lengthened b [] = (b ∷ []) ∷ []
 lengthened b (l ∷ ls) = (b ∷ l) ∷ ls
 
+-- The lines, in order, without their bytes 10.
 abbrev pub lines : List ℕ → List (List ℕ)
 lines [] = []
 lines (b ∷ bs) = cond (eqb b 10) ([] ∷ lines bs) (lengthened b (lines bs))

@@ -16,6 +16,7 @@ use Rattle.script.specs.declared.name.FormName.the-variants.{Lodge}
 use Rattle.script.specs.declared.name.Name.{Name}
 use Rattle.script.specs.declared.name.Name.the-variants.{Mark, Nothing, Pair, Or, Star}
 
+-- What is wanted next.
 pub data Want : Type 0 where
   -- an expression
   an-expr : Want

@@ -1,4 +1,4 @@
--- A part of a text.
+-- A part of a text. This file serves the proofs only.
 use Prim.Native.Nat.{ℕ, _-_}
 use mathlib.Core.List.{List}
 use lib.ListN.{take, drop}

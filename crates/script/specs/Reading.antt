@@ -4,7 +4,7 @@ use mathlib.Core.Path.{_≡_}
 use mathlib.Core.List.{List, [], _∷_, _++_, map}
 use lib.ListN.{length}
 use Rattle.std.specs.declared.option.Option.{Option}
-use Rattle.std.specs.declared.option.Option.the-variants.{Some, None}
+use Rattle.std.specs.declared.option.Option.the-variants.{Some}
 use Rattle.expression.specs.Expressions.{Expr}
 use Rattle.expression.specs.declared.raw.RawNode.{RawNode}
 use Rattle.expression.specs.declared.raw.RawNode.the-variants as raw

@@ -12,6 +12,7 @@ pub data Token : Type 0 where
   word : List ℕ → Token
   number : ℕ → Token
 
+-- The brackets, and the line's end.
 abbrev pub opening : Token
 opening = sign 40
 
@@ -49,6 +50,7 @@ pub record Placed : Type 0 where
 abbrev pub at : ℕ → Token → Placed
 at i t = record { token = t; place = i + 1 }
 
+-- The token without its place.
 abbrev pub bare : Placed → Token
 bare t = t .token
 
@@ -78,6 +80,7 @@ abbrev pub decimal-on : ℕ → List ℕ → ℕ
 decimal-on n [] = n
 decimal-on n (b ∷ bs) = decimal-on (n * 10 + (b - 48)) bs
 
+-- The number that digits write, however many.
 abbrev pub decimal : List ℕ → ℕ
 decimal bs = decimal-on 0 bs
 

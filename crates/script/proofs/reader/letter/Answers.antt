@@ -1,7 +1,7 @@
 use native.Mathlib.Omega.{arith}
 use Rattle.std.proofs.shelf.Results.{err-from-errBy, cases-weaker}
 use Rattle.script.specs.Dialects.{dialect, marks, bytes}
-use Rattle.script.proofs.Built.{tells-marks, tells-bytes, in-dialect, unlettered-first, unlettered-class, lettered-mark, unlettered-mark, lettered-byte, unlettered-byte}
+use Rattle.script.proofs.Built.{tells-marks, tells-bytes, in-dialect, unlettered-first, lettered-mark, unlettered-mark, lettered-byte, unlettered-byte}
 use Rattle.script.proofs.reader.letter.Needs as need
 
 pub returns-in-Break-first : need.returns-in-Break-first

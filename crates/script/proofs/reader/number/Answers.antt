@@ -2,7 +2,7 @@ use Prim.Native.Nat.{suc}
 use mathlib.Core.List.{_∷_}
 use Rattle.std.proofs.shelf.Results.{err-from-errBy}
 use Rattle.script.specs.Machine.{more}
-use Rattle.script.proofs.Steps.{unfit, no-number, as-sort, counted-number, uncounted}
+use Rattle.script.proofs.Steps.{unfit, no-number, as-sort, uncounted}
 use Rattle.script.proofs.reader.number.Needs as need
 
 pub returns-in-rest : need.returns-in-rest
