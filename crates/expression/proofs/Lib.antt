@@ -3,7 +3,7 @@ mod Fitting
 mod Standing
 mod Laying
 mod Muting
-mod Judging
+pub mod Judging
 pub mod Meaning
 pub mod Letters
 pub mod Members

@@ -1,1 +1,2 @@
 mod Lodgings
+pub mod OneAnswer

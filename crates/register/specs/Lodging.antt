@@ -45,3 +45,14 @@ pub record Refused (gives : ℕ → Bool) (before : List (List RawNode)) (t : Li
 -- Each number keeps the table that it meant.
 abbrev pub Kept : List (List RawNode) → List (List RawNode) → Type 0
 Kept before after = (i : ℕ) → i < length before → getD after i [] ≡ getD before i []
+
+-- What the tables before and the table t leave open of an answer: nothing.
+pub record Settled (gives : ℕ → Bool) (before : List (List RawNode)) (t : List RawNode) : Type 0 where
+  pub one-number : (n m : ℕ) (after after′ : List (List RawNode)) → Lodged gives before t n after → Lodged gives before t m after′ → (n ≡ m) × (after ≡ after′)
+  pub apart : (n : ℕ) (e : Refusal) (after after′ : List (List RawNode)) → Lodged gives before t n after → Refused gives before t e after′ → e ≡ NoMemory
+  pub one-refusal : (e f : Refusal) (after after′ : List (List RawNode)) → Refused gives before t e after → Refused gives before t f after′
+      → (e ≡ NoMemory → ⊥) → (f ≡ NoMemory → ⊥) → e ≡ f
+
+-- Want of memory aside, a lodging has one answer.
+abbrev pub One-answer : Type 0
+One-answer = (gives : ℕ → Bool) (before : List (List RawNode)) (t : List RawNode) → Settled gives before t

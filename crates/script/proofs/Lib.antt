@@ -10,3 +10,4 @@ pub mod Whole
 pub mod Wide
 pub mod Unique
 pub mod Transcripts
+pub mod OneTranscript

@@ -57,3 +57,7 @@ pub data Ran (d : Dialect) (gives : ℕ → Bool) : ℕ → List (List ℕ) → 
 pub data Transcript (d : Dialect) (gives : ℕ → Bool) (script : List ℕ) : List ℕ → Type 0 where
   too-long : 16384 < length script → Transcript d gives script (refused-text (line-figures TooLong 0))
   ran : {out : List ℕ} → length script ≤ 16384 → Ran d gives 1 (lines script) [] out → Transcript d gives script out
+
+-- A script prints one thing, whatever the day.
+abbrev pub One-transcript : Type 0
+One-transcript = (d : Dialect) (gives : ℕ → Bool) (script out out′ : List ℕ) → Transcript d gives script out → Transcript d gives script out′ → out ≡ out′
