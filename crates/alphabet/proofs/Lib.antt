@@ -1,1 +1,1 @@
-mod MarkLaws
+pub mod MarkLaws

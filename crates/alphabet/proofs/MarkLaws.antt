@@ -33,7 +33,7 @@ unnamed-number n o f = go (decLt n 1000) o
     go (yes h) o = absurd (f h)
     go (no _) o = refl
 
-classed : (s : Stamp) → stamp-classed (class-of s) ≡ Some s
+pub classed : (s : Stamp) → stamp-classed (class-of s) ≡ Some s
 classed Absent = refl
 classed WithinDay = refl
 classed Midnight = refl

@@ -1,4 +1,3 @@
-pub mod Cuts
 pub mod Feeds
 pub mod Gathering
 pub mod Layers

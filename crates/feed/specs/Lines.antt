@@ -1,8 +1,6 @@
--- The lines of a file, the marks that they say, and what comes after these.
-use mathlib.Core.Bool.{cond}
+-- The marks that the lines of a file say, and what comes after these.
 use mathlib.Core.List.{List, [], _∷_}
 use Prim.Native.Nat.{ℕ, _+_}
-use lib.Dec.{eqb}
 use Rattle.std.specs.declared.result.Result.{Result}
 use Rattle.std.specs.declared.result.Result.the-variants.{Ok, Err}
 use Rattle.alphabet.specs.declared.mark.Mark.{Mark}
@@ -10,16 +8,6 @@ use Rattle.feed.specs.declared.ending.Ending.{Ending}
 use Rattle.feed.specs.declared.ending.Ending.the-variants.{End, Fault}
 use Rattle.feed.specs.declared.line.LineFault.{LineFault}
 use Rattle.feed.specs.Line.{line-fault, reading}
-
--- The byte b before the first of the lines.
-abbrev pub onto : ℕ → List (List ℕ) → List (List ℕ)
-onto b [] = (b ∷ []) ∷ []
-onto b (l ∷ ls) = (b ∷ l) ∷ ls
-
--- Each line runs to a byte 10 or to the end; an empty file has none, and a last byte 10 opens none.
-abbrev pub lines : List ℕ → List (List ℕ)
-lines [] = []
-lines (b ∷ bs) = cond (eqb b 10) ([] ∷ lines bs) (onto b (lines bs))
 
 -- A line's mark before those of the lines after it; a line at fault lets none through.
 abbrev pub mark-first : Result Mark LineFault → List Mark → List Mark

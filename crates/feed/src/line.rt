@@ -4,7 +4,6 @@ ghost use Prim.Native.Nat.{_<_};
 ghost use lib.ListN.{getD};
 ghost use Rattle.alphabet.specs.Codes.{class-of};
 ghost use Rattle.feed.specs.Line.{closes, digit, line-fault, mark-of, reading, stamp-at};
-ghost use Rattle.feed.specs.Cuts.{Cut};
 use crate::ending::Fault;
 use alphabet::mark::Mark;
 use alphabet::mark::Stamp;
@@ -60,20 +59,6 @@ fn is_closed(line: &[u8], i: usize) -> bool
     ensures { λ r. ⌜ r ≡ closes (now (line .entry)) i ⌝ }
 {
     i >= line.len() || line[i] == b'|'
-}
-
-/// Where the line that begins at `place` ends, or none where no line begins there.
-pub(crate) fn line_end(file: &[u8], place: usize) -> Option<usize>
-    ensures { λ r. ⌜ Cut (now (file .entry)) place r ⌝ }
-{
-    if place >= file.len() {
-        return None;
-    }
-    let mut end = place;
-    while end < file.len() && file[end] != b'\n' {
-        end += 1;
-    }
-    Some(end)
 }
 
 /// The stamp after the bar.

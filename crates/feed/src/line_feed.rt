@@ -3,15 +3,16 @@ ghost use mathlib.Core.Path.{_≡_};
 ghost use Prim.Native.Nat.{_+_, _≤_};
 ghost use denote.Ref.{now};
 ghost use lib.ListN.{drop};
-ghost use Rattle.feed.specs.Lines.{lines, line-ending, marks};
+ghost use Rattle.feed.specs.Lines.{line-ending, marks};
+ghost use Rattle.text.specs.Lines.{lines};
 use crate::ending::Ending;
 use crate::ending::Taken;
 use crate::feed::Feed;
-use crate::line::line_end;
 use crate::line::read_line;
 use alphabet::mark::Mark;
 use alphabet::marks::Marks;
 use alphabet::marks::MarksKind;
+use text::lines::next_line;
 
 /// The lines of a file from a place on, the first of which has the number `line`, counted from 1.
 #[derive(Drop)]
@@ -46,12 +47,12 @@ pub impl<'a> Feed for LineFeed<'a> as LineFeedFeed {
     ghost ending = { λ s. line-ending (s .line) (lines (drop (s .place) (now (s .file)))) };
 
     fn take(&mut self) -> Taken<Mark> {
-        let Some(end) = line_end(self.file, self.place) else {
+        let Some(line) = next_line(self.file, self.place) else {
             return Taken::Ended(Ending::End);
         };
-        match read_line(&self.file[self.place..end]) {
+        match read_line(line.bytes) {
             Ok(mark) => {
-                self.place = end + 1;
+                self.place = line.next;
                 self.line += 1;
                 Taken::Letter(mark)
             }

@@ -2,7 +2,8 @@
 ghost use mathlib.Core.Path.{_≡_};
 ghost use lib.ListN.{take};
 ghost use Rattle.feed.specs.Gathering.{gathered, limit, over};
-ghost use Rattle.feed.specs.Lines.{line-ending, lines};
+ghost use Rattle.feed.specs.Lines.{line-ending};
+ghost use Rattle.text.specs.Lines.{lines};
 ghost use Rattle.feed.specs.Stacks.{sifted};
 ghost use Rattle.feed.specs.Tables.{codes-of, pairs-of};
 use crate::gathering::Gathered;

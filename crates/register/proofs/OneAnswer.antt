@@ -34,5 +34,5 @@ one-answer gives before t =
     record {
       one-number = one-number gives before t;
       apart = λ n e after after′ p q. not-both gives before t n e after p (q .cause);
-      one-refusal = λ e f after after′ p q. one-cause gives before t e f (p .cause) (q .cause)
+      one-refusal = λ e f after after′ p q. one-cause gives before t e f (p .cause) (q .cause);
     }

@@ -11,14 +11,14 @@ use borrow.Author.Tests.{leb-true, lt-leb, eqb-true, ne-eqb, lt-ltb, le-ltb}
 use Rattle.std.proofs.shelf.Lists.{take-more}
 use Rattle.std.proofs.shelf.Tests.{and-parts}
 use Rattle.std.specs.declared.result.Result.the-variants.{Ok, Err}
-use Rattle.script.specs.Parts.{part}
+use Rattle.text.specs.Parts.{part}
 use Rattle.script.specs.Tokens.{sign, at, idle, begun, letter, digit, mark, belongs, run-token, lexed, decimal-on, decimal}
 use Rattle.script.specs.Lexing.{ahead, begins, Took, valued}
 use Rattle.script.specs.declared.fault.TokenFault.the-variants.{TooLarge}
 use Rattle.script.specs.declared.token.Run.{Run}
 use Rattle.script.specs.declared.token.Run.the-variants.{Letters, Digits}
 use Rattle.script.specs.declared.token.Sort.the-variants.{Open, Close, Dash, End}
-use Rattle.script.proofs.Sections.{split, none-left, part-one, part-more}
+use Rattle.text.proofs.Sections.{split, none-left, part-one, part-more}
 
 -- A byte that begins no token is passed over.
 pub skipped : (line : List ℕ) (i : ℕ) → i < length line → begins (getD line i 0) ≡ false → ahead line i ≡ ahead line (i + 1)

@@ -1,10 +1,8 @@
 pub mod Built
-pub mod Cuts
 pub mod Cutting
 pub mod Judge
 pub mod Only
 pub mod Same
-pub mod Sections
 pub mod Steps
 pub mod Whole
 pub mod Wide

@@ -19,7 +19,7 @@ use Rattle.script.specs.Denoted.{Holds, postfix, denoted}
 use Rattle.script.specs.Dialects.{Dialect}
 use Rattle.script.specs.Forms.{Written, lodge}
 use Rattle.script.specs.Law.{Accepted, Refused, Refusal as Unread}
-use Rattle.script.specs.Lines.{lines}
+use Rattle.text.specs.Lines.{lines}
 use Rattle.script.specs.Running.{Tables, Calls, Declines, Did, Failed, Responded, silent, answered, refused, Ran, ended, then, Transcript, too-long, ran, One-transcript}
 use Rattle.script.specs.declared.answer.Answer.{Answer}
 use Rattle.script.specs.declared.answer.Answer.the-variants.{Lodged}

@@ -13,7 +13,7 @@ use Rattle.script.specs.Dialects.{Dialect}
 use Rattle.script.specs.Lexing.{ahead, meaning, meant, onward, Took, valued}
 use Rattle.script.specs.Machine as machine
 use Rattle.script.specs.Machine.{Want, an-expr, a-name, more, the, a-head, name-of, wanted, after-name, head-of, headed, after-head, fits, start, off, on, unnamed, limited, fitted, landed, going, fault, walk, judged}
-use Rattle.script.specs.Parts.{part}
+use Rattle.text.specs.Parts.{part}
 use Rattle.script.specs.Reading.{Told, Uncounted, Unsealed, Headed, Led}
 use Rattle.script.specs.Tokens as spec
 use Rattle.script.specs.Tokens.{bare, word, opening, decimal}

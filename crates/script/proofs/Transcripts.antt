@@ -9,7 +9,8 @@ use native.Mathlib.Numerals.{add-one}
 use lib.ListN.{length, drop, getD, length-append}
 use borrow.Author.Tests.{eqb-true}
 use Rattle.script.specs.Dialects.{Dialect}
-use Rattle.script.specs.Lines.{lines, numbered}
+use Rattle.script.specs.Lines.{numbered}
+use Rattle.text.specs.Lines.{lines}
 use Rattle.script.specs.Running.{Tables, Ran, ended, then, Responded}
 
 -- One text after another.

@@ -7,7 +7,7 @@ use lib.Dec.{ltb}
 use lib.ListN.{length, drop}
 use Rattle.std.specs.declared.result.Result.{Result}
 use Rattle.std.specs.declared.result.Result.the-variants.{Ok, Err}
-use Rattle.script.specs.Parts.{part}
+use Rattle.text.specs.Parts.{part}
 use Rattle.script.specs.Tokens as spec
 use Rattle.script.specs.Tokens.{Placed, at, lexed, idle, word, number, sign, letter, digit, mark, decimal}
 use Rattle.script.specs.declared.fault.TokenFault.{TokenFault}

@@ -8,7 +8,6 @@ pub mod Law
 pub mod Lexing
 pub mod Lines
 pub mod Machine
-pub mod Parts
 pub mod Reading
 pub mod Running
 pub mod Tokens

@@ -9,7 +9,7 @@ use Rattle.expression.specs.declared.raw.RawNode.{RawNode}
 use Rattle.register.specs.Lodging as call
 use Rattle.register.specs.declared.refusal.Refusal.{Refusal}
 use Rattle.script.specs.Answers.{answer-text, refused-text, line-figures, excerpt-of, out-of-memory}
-use Rattle.script.specs.Lines.{lines}
+use Rattle.text.specs.Lines.{lines}
 use Rattle.script.specs.Dialects.{Dialect}
 use Rattle.script.specs.Law as law
 use Rattle.script.specs.declared.answer.Answer.{Answer}

@@ -6,7 +6,7 @@ ghost use Prim.Native.Nat.{_<_, _≤_};
 ghost use lib.ListN.{length, getD};
 ghost use Rattle.std.specs.Results.{Cases};
 ghost use Rattle.script.specs.Tokens.{known, belongs as «in-run», at as placed, run-token, decimal};
-ghost use Rattle.script.specs.Parts.{part};
+ghost use Rattle.text.specs.Parts.{part};
 ghost use Rattle.script.specs.Lexing.{begins as «begins-token», ahead, Took, valued};
 ghost use Rattle.script.specs.Bytes.{Known, Spoils};
 use crate::fault::TokenFault;

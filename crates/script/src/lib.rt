@@ -11,6 +11,6 @@ pub mod line;
 mod name;
 mod reader;
 pub mod running;
-pub mod text;
+pub mod source;
 pub mod theorems;
 mod token;

@@ -2,7 +2,8 @@ use Prim.Native.Nat.{_-_}
 use mathlib.Core.Path.{_≡_}
 use mathlib.Core.List.{[]}
 use lib.ListN.{length, drop, getD}
-use Rattle.script.specs.Lines.{lines, numbered}
+use Rattle.script.specs.Lines.{numbered}
+use Rattle.text.specs.Lines.{lines}
 use Rattle.script.proofs.excerpt.numbered.Given as given
 
 abbrev pub Inv-loop-found : given.InvT-loop-found

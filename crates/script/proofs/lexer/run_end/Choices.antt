@@ -1,7 +1,7 @@
 use Prim.Native.Nat.{_-_, _≤_, _<_}
 use mathlib.Core.Path.{_≡_}
 use lib.ListN.{length, drop}
-use Rattle.script.specs.Parts.{part}
+use Rattle.text.specs.Parts.{part}
 use Rattle.script.specs.Tokens.{lexed, begun}
 use Rattle.script.specs.Lexing.{ahead}
 use Rattle.script.proofs.lexer.run_end.Given as given

@@ -2,7 +2,7 @@ use native.Mathlib.Omega.{arith}
 use Prim.Native.Nat.{_+_}
 use mathlib.Core.Path.{_∙_, ap}
 use Rattle.std.proofs.shelf.Lists.{take-all}
-use Rattle.script.specs.Parts.{part}
+use Rattle.text.specs.Parts.{part}
 use Rattle.script.specs.Tokens.{decimal}
 use Rattle.script.proofs.Cutting.{value-more, value-over, value-end}
 use Rattle.script.proofs.lexer.value.Needs as need

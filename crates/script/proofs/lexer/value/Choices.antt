@@ -1,7 +1,7 @@
 use Prim.Native.Nat.{_≤_}
 use mathlib.Core.Path.{_≡_}
 use lib.ListN.{take}
-use Rattle.script.specs.Parts.{part}
+use Rattle.text.specs.Parts.{part}
 use Rattle.script.specs.Tokens.{decimal}
 use Rattle.script.proofs.lexer.value.Given as given
 

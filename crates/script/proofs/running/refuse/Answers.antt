@@ -2,7 +2,8 @@ use mathlib.Core.Path.{sym, ap, _∙_}
 use mathlib.Core.List.{_++_}
 use Rattle.std.specs.Of.Vec.{vec-items}
 use Rattle.script.specs.Answers.{refused-text, shown-text, excerpt-of, line-figures}
-use Rattle.script.specs.Lines.{lines, numbered}
+use Rattle.script.specs.Lines.{numbered}
+use Rattle.text.specs.Lines.{lines}
 use Rattle.script.proofs.Transcripts.{added}
 use Rattle.script.proofs.running.refuse.Needs as need
 

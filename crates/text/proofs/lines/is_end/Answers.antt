@@ -1,6 +1,6 @@
 use borrow.Author.Needs.{needs}
-use Rattle.script.proofs.Cuts.{no-more}
-use Rattle.script.proofs.excerpt.is_end.Needs as need
+use Rattle.text.proofs.Cuts.{no-more}
+use Rattle.text.proofs.lines.is_end.Needs as need
 
 pub returns : need.returns
 returns c =

@@ -6,7 +6,7 @@ use native.Mathlib.Omega.{arith}
 use native.Mathlib.Numerals.{add-one}
 use lib.ListN.{length, take, drop, getD, length-drop}
 use lib.Seq.{drop-cons, take-suc, getD-drop, length-take-le}
-use Rattle.script.specs.Parts.{part}
+use Rattle.text.specs.Parts.{part}
 
 -- The byte at i and what follows it.
 pub split : (text : List ℕ) (i : ℕ) → i < length text → drop i text ≡ getD text i 0 ∷ drop (i + 1) text

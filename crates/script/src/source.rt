@@ -14,10 +14,3 @@ pub struct Excerpt<'a> {
     pub line: usize,
     pub bytes: &'a [u8],
 }
-
-/// A line of a text, and where the next one begins.
-#[derive(Clone, Copy)]
-pub struct Line<'a> {
-    pub bytes: &'a [u8],
-    pub next: usize,
-}

@@ -1,10 +1,10 @@
 use Prim.Native.Nat.{_-_, _≤_}
 use mathlib.Core.Path.{_≡_}
 use lib.ListN.{length, drop}
-use Rattle.script.specs.Lines.{lines}
-use Rattle.script.specs.Parts.{part}
-use Rattle.script.proofs.Cuts.{lengthenings}
-use Rattle.script.proofs.excerpt.line_end.Given as given
+use Rattle.text.specs.Lines.{lines}
+use Rattle.text.specs.Parts.{part}
+use Rattle.text.proofs.Cuts.{lengthenings}
+use Rattle.text.proofs.lines.line_end.Given as given
 
 abbrev pub Inv-loop-j : given.InvT-loop-j
 Inv-loop-j l =

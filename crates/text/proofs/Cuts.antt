@@ -7,9 +7,9 @@ use mathlib.Core.Bool.{cond}
 use native.Mathlib.Omega.{arith}
 use lib.ListN.{length, drop, getD}
 use borrow.Author.Tests.{eq-eqb, ne-eqb}
-use Rattle.script.specs.Lines.{lines, lengthened}
-use Rattle.script.specs.Parts.{part}
-use Rattle.script.proofs.Sections.{split, none-left, part-more, length-part}
+use Rattle.text.specs.Lines.{lines, lengthened}
+use Rattle.text.specs.Parts.{part}
+use Rattle.text.proofs.Sections.{split, none-left, part-more, length-part}
 
 -- Bytes before the first line.
 abbrev pub lengthenings : List ℕ → List (List ℕ) → List (List ℕ)

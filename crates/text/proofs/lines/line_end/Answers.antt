@@ -1,7 +1,7 @@
 use native.Mathlib.Omega.{arith}
 use mathlib.Core.Path.{_∙_}
-use Rattle.script.proofs.Cuts.{grown, cut-here, cut-end}
-use Rattle.script.proofs.excerpt.line_end.Needs as need
+use Rattle.text.proofs.Cuts.{grown, cut-here, cut-end}
+use Rattle.text.proofs.lines.line_end.Needs as need
 
 pub loop-j-again : need.loop-j-again
 loop-j-again c =

@@ -1,9 +1,9 @@
 use native.Mathlib.Omega.{arith}
 use mathlib.Core.Path.{_∙_}
 use mathlib.Core.Logic.{inl, inr}
-use Rattle.script.proofs.Cuts.{After, after-next, after-rest}
-use Rattle.script.proofs.excerpt.line_at.Needs as need
-use Rattle.script.proofs.excerpt.line_at.Needs.{then-to-text, else-to-text}
+use Rattle.text.proofs.Cuts.{After, after-next, after-rest}
+use Rattle.text.proofs.lines.line_at.Needs as need
+use Rattle.text.proofs.lines.line_at.Needs.{then-to-text, else-to-text}
 
 pub returns : need.returns
 returns c =

@@ -1,0 +1,2 @@
+//! Texts and their lines.
+pub mod lines;
