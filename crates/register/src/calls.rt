@@ -23,9 +23,10 @@ impl<K: Kind> Register<K> {
     pub fn new(heap: Global) -> Register<K>
         ensures { λ r. ⌜ tables r ≡ [] ⌝ }
     {
+        let layouts = Vec::new(heap);
         Register {
             heap,
-            layouts: Vec::new(heap),
+            layouts,
             kind: PhantomData,
         }
     }
