@@ -25,3 +25,9 @@ pub mod Walking
 pub mod Finishing
 pub mod PlaceRange
 pub mod PlaceTheorems
+pub mod Sizes
+pub mod Along
+pub mod Visiting
+pub mod Writing
+pub mod Passing
+pub mod EmptyTurns

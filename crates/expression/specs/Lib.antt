@@ -20,3 +20,6 @@ pub mod Places
 pub mod Walks
 pub mod PlaceTheorems
 pub mod WorkedLines
+pub mod Spelling
+pub mod Following
+pub mod Passing

@@ -1,0 +1,4 @@
+use Rattle.expression.proofs.empty_turns.+put_below.Given as given
+
+abbrev pub μ-put-below : given.MeasureT-put-below
+μ-put-below l = l .i
