@@ -10,9 +10,12 @@ use Rattle.std.specs.declared.option.Option.{Option}
 use Rattle.std.specs.declared.option.Option.the-variants.{Some, None}
 use Rattle.std.specs.declared.result.Result.{Result}
 use Rattle.std.specs.declared.result.Result.the-variants.{Ok, Err}
+use Rattle.expression.specs.declared.layout.Layout.{Layout}
 use Rattle.expression.specs.declared.spell_fault.SpellFault.{SpellFault}
 use Rattle.expression.specs.declared.spell_fault.SpellFault.the-variants.{NoTree, TooShort}
 use Rattle.expression.specs.Expressions.{Expr}
+use Rattle.expression.specs.Layouts.{nodes-of}
+use Rattle.expression.specs.Nodes.{expr-at}
 use Rattle.expression.specs.Optional.{omap}
 use Rattle.expression.specs.Search.{empty-tree}
 use Rattle.expression.specs.Trees.{spells}
@@ -36,6 +39,10 @@ listed (maybe.some xs) = xs
 -- The turns of the first tree of e without letters, if it has one.
 abbrev pub empty-turns : Expr → maybe.Option (List ℕ)
 empty-turns e = omap turns (empty-tree e)
+
+-- Those of the part that node i ends. Past the last node stands a letter, which has none.
+abbrev pub empty-turns-at : Layout → ℕ → maybe.Option (List ℕ)
+empty-turns-at l i = empty-turns (expr-at (nodes-of l) i)
 
 -- The codes that the tree of e with just these turns spells, if there is such a tree.
 abbrev pub codes : Expr → List ℕ → maybe.Option (List ℕ)

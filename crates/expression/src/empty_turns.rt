@@ -4,9 +4,9 @@ ghost use lib.ListN.{length};
 ghost use mathlib.Core.Bool.{cond};
 ghost use mathlib.Core.Path.{_≡_};
 ghost use Rattle.expression.specs.Layouts.{nodes-of};
-ghost use Rattle.expression.specs.Nodes.{expr-at, node as node-at};
+ghost use Rattle.expression.specs.Nodes.{node as node-at};
 ghost use Rattle.expression.specs.Passing.{Put, Skips};
-ghost use Rattle.expression.specs.Spelling.{counted, empty-turns, listed, written};
+ghost use Rattle.expression.specs.Spelling.{counted, empty-turns-at, listed, written};
 use crate::buffer::put;
 use crate::layout::Layout;
 use crate::node::Node;
@@ -42,7 +42,7 @@ fn empty_side(layout: &Layout, here: Node) -> Side
 /// Writes the turns of the first tree without letters of node `i` from `at` on, as far as there is room, and counts them.
 fn put_below(layout: &Layout, i: u8, turns: &mut [u8], at: u128) -> u8
     requires { ⌜ Skips (now layout) i at ⌝ }
-    ensures { λ r. ⌜ Put (listed (empty-turns (expr-at (nodes-of (now (layout .entry))) i))) at r (now (turns .entry)) (now (turns .exit)) ⌝ }
+    ensures { λ r. ⌜ Put (listed (empty-turns-at (now (layout .entry)) i)) at r (now (turns .entry)) (now (turns .exit)) ⌝ }
 {
     let here = read(layout, i);
     match here.shape {
@@ -77,8 +77,8 @@ fn admits(layout: &Layout, node: u8) -> bool
 /// Writes the turns of the first tree without letters of a node, if it has one, and counts them.
 fn put_first(layout: &Layout, node: u8, turns: &mut [u8], at: u128) -> Option<u8>
     requires { ⌜ at < 2 ^ 64 ⌝ }
-    ensures count { λ r. ⌜ r ≡ counted (empty-turns (expr-at (nodes-of (now (layout .entry))) node)) ⌝ }
-    ensures buffer { λ _. ⌜ now (turns .exit) ≡ written (listed (empty-turns (expr-at (nodes-of (now (layout .entry))) node))) at (now (turns .entry)) ⌝ }
+    ensures count { λ r. ⌜ r ≡ counted (empty-turns-at (now (layout .entry)) node) ⌝ }
+    ensures buffer { λ _. ⌜ now (turns .exit) ≡ written (listed (empty-turns-at (now (layout .entry)) node)) at (now (turns .entry)) ⌝ }
 {
     if admits(layout, node) {
         Some(put_below(layout, node, turns, at))
@@ -90,8 +90,8 @@ fn put_first(layout: &Layout, node: u8, turns: &mut [u8], at: u128) -> Option<u8
 impl Layout {
     /// Writes the turns of the first tree without letters of the part that `node` ends into `turns` from `at` on, as far as there is room, and answers how many they are. None where the part has no such tree, or the layout no such node.
     pub fn put_empty_tree(&self, node: u8, turns: &mut [u8], at: usize) -> Option<u8>
-        ensures count { λ r. ⌜ r ≡ counted (empty-turns (expr-at (nodes-of (now (self .entry))) node)) ⌝ }
-        ensures buffer { λ _. ⌜ now (turns .exit) ≡ written (listed (empty-turns (expr-at (nodes-of (now (self .entry))) node))) at (now (turns .entry)) ⌝ }
+        ensures count { λ r. ⌜ r ≡ counted (empty-turns-at (now (self .entry)) node) ⌝ }
+        ensures buffer { λ _. ⌜ now (turns .exit) ≡ written (listed (empty-turns-at (now (self .entry)) node)) at (now (turns .entry)) ⌝ }
     {
         put_first(self, node, turns, at as u128)
     }

@@ -1,0 +1,16 @@
+mod Booleans
+mod Lists
+mod Sound
+mod Dichotomy
+mod Format
+mod Judging
+mod WorkedRows
+mod Stepping
+mod Wiring
+mod Passing
+mod Indexing
+mod Serving
+mod Marking
+mod Tabled
+mod Answering
+mod Reaching

@@ -1,0 +1,16 @@
+pub mod Checking
+pub mod Rows
+pub mod Format
+pub mod Rules
+pub mod Verdicts
+pub mod Refusals
+pub mod Refuting
+pub mod Theorems
+pub mod WorkedRows
+pub mod Stepping
+pub mod Wiring
+pub mod Passes
+pub mod Indexing
+pub mod Serving
+pub mod Scenes
+pub mod Reaching

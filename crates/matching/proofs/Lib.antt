@@ -1,0 +1,9 @@
+mod Holding
+mod Legs
+mod Passes
+mod RowLaws
+mod StepLaws
+mod Leaving
+mod Weights
+mod WalkLaws
+mod Telling
