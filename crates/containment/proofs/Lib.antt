@@ -5,6 +5,7 @@ mod Dichotomy
 mod Format
 mod Judging
 mod WorkedRows
+mod AllWorked
 mod Stepping
 mod Wiring
 mod Passing

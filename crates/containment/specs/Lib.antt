@@ -7,6 +7,7 @@ pub mod Refusals
 pub mod Refuting
 pub mod Theorems
 pub mod WorkedRows
+pub mod Worked
 pub mod Stepping
 pub mod Wiring
 pub mod Passes

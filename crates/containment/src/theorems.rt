@@ -1,7 +1,7 @@
 //! The theory of rows. Each theorem is the contract of a function that only returns 0.
 ghost use Rattle.containment.specs.Format.{Format};
 ghost use Rattle.containment.specs.Theorems.{One-verdicts, Rows-or-word, Sound};
-ghost use Rattle.containment.specs.WorkedRows.{WorkedRows};
+ghost use Rattle.containment.specs.Worked.{Worked};
 
 /// A list of numbers is ill formed nowhere exactly if it is that of rows in range, and then of one list of rows only.
 pub fn lists_are_rows() -> u8
@@ -31,9 +31,9 @@ pub fn one_verdict() -> u8
     0
 }
 
-/// The worked lines on rows hold.
-pub fn worked_rows_hold() -> u8
-    ensures { λ _. ⌜ WorkedRows ⌝ }
+/// The worked lines hold, those on trees and those on rows.
+pub fn worked_lines_hold() -> u8
+    ensures { λ _. ⌜ Worked ⌝ }
 {
     0
 }
