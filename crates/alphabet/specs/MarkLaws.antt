@@ -6,7 +6,7 @@ use Rattle.std.proofs.Math.Decide.{dec_lt}
 use Rattle.alphabet.specs.declared.mark.Mark.{Mark}
 use Rattle.alphabet.specs.declared.mark.Stamp.{Stamp}
 use Rattle.alphabet.specs.declared.mark.Stamp.TheVariants.{Absent, WithinDay, Midnight}
-use Rattle.alphabet.specs.Codes.{class_of, mark_code, stamp_classed, mark, in_range, mark_named, mark_letter}
+use Rattle.alphabet.specs.Codes.{class_of, mark_code, stamp_classed, mark, in_range, mark_letter}
 
 -- A record number in range keeps its stamp, whichever proof says so.
 pub ranged_named : (n : ℕ) (h : n < 1000) (s : Stamp) (o : Option Stamp) → o ≡ Some s → in_range n (dec_lt n 1000) o ≡ Some (mark n h s)

@@ -1,7 +1,7 @@
 //! Bytes as letters, coded by their value.
 ghost use Rattle.std.specs.Prelude.{◌<◌};
 ghost use Rattle.alphabet.specs.Codes.{byte_letter};
-ghost use Rattle.std.proofs.Common.{rules};
+ghost use Rattle.alphabet.specs.ByteLaws;
 
 use crate::kind::Kind;
 
@@ -17,9 +17,9 @@ impl Kind for Bytes {
 
     ghost lettered = { byte_letter };
 
-    ghost back = { Prim.search rules };
+    ghost back = { ByteLaws.back };
 
-    ghost only = { Prim.search rules };
+    ghost only = { ByteLaws.only };
 
     fn code(l: u8) -> u16 {
         u16::from(l)

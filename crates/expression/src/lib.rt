@@ -1,4 +1,5 @@
 //! Layouts: regular expressions, written as tables of nodes.
+#![tactic(auto)]
 mod buffer;
 pub mod check;
 mod empty_turns;

@@ -1,4 +1,5 @@
 //! Reading: the first tree of letters under a layout.
+#![tactic(auto)]
 pub mod fault;
 mod fill;
 pub mod laws;

@@ -1,4 +1,5 @@
 //! The register: up to sixteen layouts of one letter kind, and the calls on them.
+#![tactic(auto)]
 pub mod calls;
 pub mod laws;
 pub mod refusal;

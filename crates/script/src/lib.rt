@@ -1,4 +1,5 @@
 //! Scripts: reading a line into a form, and running a whole script on a register.
+#![tactic(auto)]
 pub mod answer;
 pub mod excerpt;
 pub mod fault;

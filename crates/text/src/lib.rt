@@ -1,2 +1,4 @@
 //! Texts and their lines.
+#![tactic(auto)]
+
 pub mod lines;
