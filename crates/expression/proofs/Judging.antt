@@ -6,7 +6,7 @@ use Rattle.expression.specs.declared.fault.TableFault.{TableFault}
 use Rattle.expression.specs.declared.fault.TableFault.TheVariants as fault
 use Rattle.expression.specs.declared.node.Node.{Node}
 use Rattle.expression.specs.declared.raw.RawNode.{RawNode}
-use Rattle.expression.specs.declared.raw.RawNode.TheVariants.{Letter, Empty, Unknown}
+use Rattle.expression.specs.declared.raw.RawNode.TheVariants.{Letter, Unknown}
 use Rattle.expression.specs.Checking.{Outcome, laid, stuck, lay, Told, FirstMute}
 use Rattle.expression.specs.Expressions.{Expr}
 use Rattle.expression.specs.Nodes.{no_node, node, last, raw_of, expr_at}

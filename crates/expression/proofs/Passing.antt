@@ -1,5 +1,5 @@
 -- A whole walk along a layout.
-use Rattle.std.proofs.Common.{◌≡◌, ℕ, ◌+◌, ◌-◌, ◌*◌, ◌^◌, ◌<◌, ◌≤◌, false, ltb, ◌⊎◌, List, [], ◌∷◌, ◌++◌, length, set, replicate, Some, None, Ok, Option, sym, refl, ap, ◌∙◌, subst, inl, inr, append_assoc, append-nil, zero_add, arith, length-append, le-ltb}
+use Rattle.std.proofs.Common.{◌≡◌, ℕ, ◌+◌, ◌*◌, ◌^◌, ◌<◌, ◌≤◌, false, ltb, ◌⊎◌, List, [], ◌∷◌, ◌++◌, length, set, replicate, Some, None, Ok, Option, sym, refl, ap, ◌∙◌, subst, inl, inr, append_assoc, append-nil, zero-add, arith, length-append, le-ltb}
 use mathlib.Core.Option.{Option as Maybe, some, none as nothing}
 use lib.ListN.{length-replicate}
 use Rattle.std.specs.Option.{option_to_list}
@@ -106,7 +106,7 @@ module _ {L : Type 0} (f : ℕ → Option L) (done : List ℕ) (c count : ℕ) (
       let m : letters_by f (done ++ (c ∷ [])) ≡ letters_by f done ++ (x ∷ []) = more_letters ∙ rw (← e) in
       record {
         count = rw m (omega (arith, p.count, length-append (letters_by f done) (x ∷ [])));
-        buffer = q ∙ rw (m, written_append (letters_by f done) (x ∷ []) 0 start, zero_add, ← p.count, ← p.buffer);
+        buffer = q ∙ rw (m, written_append (letters_by f done) (x ∷ []) 0 start, zero-add, ← p.count, ← p.buffer);
       }
 
   pub put_mute : None ≡ f c → Put (letters_by f (done ++ (c ∷ []))) 0 count start buf

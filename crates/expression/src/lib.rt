@@ -1,5 +1,6 @@
 //! Layouts: regular expressions, written as tables of nodes.
 #![tactic(auto)]
+
 mod buffer;
 pub mod check;
 mod empty_turns;

@@ -1,4 +1,4 @@
 use Rattle.expression.proofs.empty_turns.+put_below.Given as goal
 
-abbrev pub decreases-put-below : goal.decreases-put-below
-decreases-put-below l = l.i
+abbrev pub decreases-put_below : goal.decreases-put_below
+decreases-put_below l = l.i

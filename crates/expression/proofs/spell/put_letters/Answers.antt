@@ -6,8 +6,8 @@ use Rattle.expression.proofs.spell.put_letters.Goals as goal
 pub loop-code-init : goal.loop-code-init
 loop-code-init g c = rw c.new-walk.ensures ([], start_passed c.args.layout.now c.args.turns.now, record { count = refl; buffer = refl })
 
-pub overflow-add-count : goal.overflow-add-count
-overflow-add-count g c =
+pub overflow_add-count : goal.overflow_add-count
+overflow_add-count g c =
     let i = c.loop-code.invariant in
     let m = few c.args.layout.now c.args.turns.now c.loop-code.walk i.0 i.1 (omega arith) in
     omega (arith, i.2.count, letters_short g.K.Kind.lettered i.0)
@@ -21,10 +21,10 @@ loop-code-preserved-in-Some g c =
           c.put.new.buffer c.in-Some.ensures c.put.ensures,
     )
 
-pub loop-code-preserved-in-default : goal.loop-code-preserved-in-default
-loop-code-preserved-in-default g c =
+pub loop-code-preserved-in_default : goal.loop-code-preserved-in_default
+loop-code-preserved-in_default g c =
     let i = c.loop-code.invariant in (
       i.0 ++ (c.in-Letter.code ∷ []),
       pass_letter c.args.layout.now c.args.turns.now c.loop-code.walk c.advance.new.self i.0 i.1 c.in-Letter.code c.in-Letter.ensures,
-      put_mute g.K.Kind.lettered i.0 c.in-Letter.code c.loop-code.count c.args.letters.now c.loop-code.letters i.2 c.in-default.ensures,
+      put_mute g.K.Kind.lettered i.0 c.in-Letter.code c.loop-code.count c.args.letters.now c.loop-code.letters i.2 c.in_default.ensures,
     )

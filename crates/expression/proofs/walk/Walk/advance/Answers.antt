@@ -8,8 +8,8 @@ returns-then-self-turns c = ended c.args.layout.now c.args.turns.now c.args.self
 pub returns-else-self-turns : goal.returns-else-self-turns
 returns-else-self-turns c = unfinished c.args.layout.now c.args.turns.now c.args.self.now c.requires c.if-self-eq0.true c.if-self-turns.false
 
-pub offset-bounds-self-self : goal.offset-bounds-self-self
-offset-bounds-self-self c =
+pub offset_bounds-self-self : goal.offset_bounds-self-self
+offset_bounds-self-self c =
     let h = top_room c.args.layout.now c.args.turns.now c.args.self.now c.requires c.if-self-eq0.false in omega arith
 
 pub bounds-self-self : goal.bounds-self-self

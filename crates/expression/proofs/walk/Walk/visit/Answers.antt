@@ -17,10 +17,10 @@ returns-in-Pair c =
     visit_pair c.args.layout.now c.args.turns.now c.args.self.now c.args.i c.requires c.read-here.result c.read-here.ensures _ _
     c.push.ensures c.push-in-Pair.ensures c.in-Pair.is
 
-pub returns-in-default : goal.returns-in-default
-returns-in-default c =
+pub returns-in_default : goal.returns-in_default
+returns-in_default c =
     visit_no_side c.args.layout.now c.args.turns.now c.args.self.now c.args.i c.requires c.read-here.result c.read-here.ensures c.in-Or.is
-    (told c.args.turns.now c.args.self.now.at _ c.in-default.ensures)
+    (told c.args.turns.now c.args.self.now.at _ c.in_default.ensures)
 
 pub returns-after-right : goal.returns-after-right
 returns-after-right c =
@@ -32,10 +32,10 @@ returns-after-right c =
     visit_side c.args.layout.now c.args.turns.now c.args.self.now c.args.i c.requires here c.read-here.ensures c.in-Some.right _ _
     side c.push-in-Or.ensures c.in-Or.is (told c.args.turns.now c.args.self.now.at _ c.in-Some.ensures)
 
-pub returns-in-default-turn : goal.returns-in-default-turn
-returns-in-default-turn c =
+pub returns-in_default-turn : goal.returns-in_default-turn
+returns-in_default-turn c =
     visit_no_list c.args.layout.now c.args.turns.now c.args.self.now c.args.i c.requires c.read-here.result c.read-here.ensures c.in-Star.is
-    (told c.args.turns.now c.args.self.now.at _ c.in-default-turn.ensures)
+    (told c.args.turns.now c.args.self.now.at _ c.in_default-turn.ensures)
 
 pub returns-then-not-ends : goal.returns-then-not-ends
 returns-then-not-ends c =
