@@ -29,11 +29,11 @@ fn ended(count: usize, ending: Ending) -> Gathered
 /// Gathers at most `most` letters.
 fn gather_most<F: Feed>(feed: &mut F, buf: &mut [F::Letter], most: usize) -> Gathered
     requires { most ≤ length buf.old }
-    ensures buffer { buf.new ≡ over (take most (waiting feed.old)) buf.old }
-    ensures left { waiting feed.new ≡ drop (most + 1) (waiting feed.old) }
-    ensures same { ending feed.new ≡ ending feed.old }
-    ensures answer { result ≡ gathered (waiting feed.old) (ending feed.old) most }
-    ensures ranged { Each F.Of.Kind.ranged (take most (waiting feed.old)) }
+    ensures buffer { buf.new ≡ over (take most (F.waiting feed.old)) buf.old }
+    ensures left { F.waiting feed.new ≡ drop (most + 1) (F.waiting feed.old) }
+    ensures same { F.ending feed.new ≡ F.ending feed.old }
+    ensures answer { result ≡ gathered (F.waiting feed.old) (F.ending feed.old) most }
+    ensures ranged { Each F.Of.Kind.ranged (take most (F.waiting feed.old)) }
 {
     let mut count = 0;
     loop {
@@ -53,11 +53,11 @@ fn gather_most<F: Feed>(feed: &mut F, buf: &mut [F::Letter], most: usize) -> Gat
 /// Takes from the feed up to and with its ending, or the first letter beyond the limit, and writes the letters
 /// before that to the front of the buffer. The limit is 4,096 or the buffer's length, if that is smaller.
 pub fn gather<F: Feed>(feed: &mut F, buf: &mut [F::Letter]) -> Gathered
-    ensures buffer { buf.new ≡ over (take (limit buf.old) (waiting feed.old)) buf.old }
-    ensures left { waiting feed.new ≡ drop (limit buf.old + 1) (waiting feed.old) }
-    ensures same { ending feed.new ≡ ending feed.old }
-    ensures answer { result ≡ gathered (waiting feed.old) (ending feed.old) (limit buf.old) }
-    ensures ranged { Each F.Of.Kind.ranged (take (limit buf.old) (waiting feed.old)) }
+    ensures buffer { buf.new ≡ over (take (limit buf.old) (F.waiting feed.old)) buf.old }
+    ensures left { F.waiting feed.new ≡ drop (limit buf.old + 1) (F.waiting feed.old) }
+    ensures same { F.ending feed.new ≡ F.ending feed.old }
+    ensures answer { result ≡ gathered (F.waiting feed.old) (F.ending feed.old) (limit buf.old) }
+    ensures ranged { Each F.Of.Kind.ranged (take (limit buf.old) (F.waiting feed.old)) }
 {
     let most = buf.len().min(4096);
     gather_most(feed, buf, most)

@@ -1,6 +1,7 @@
 //! Feeds: letters that come one by one and then an ending that stays.
 //! Here are the feeds of a field's bytes and of a file's lines, the layers that rename and skip, and gathering.
 #![tactic(auto)]
+
 pub mod byte_feed;
 pub mod ending;
 pub mod feed;
