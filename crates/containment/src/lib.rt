@@ -1,5 +1,6 @@
 //! Containment: whether the words of one layout are words of another, judged from rows or from a word.
 #![tactic(auto)]
+
 mod after;
 pub mod fault;
 mod index;

@@ -1,10 +1,9 @@
 -- The nodes of a layout hold the parts of its expression.
 use Rattle.std.proofs.Common.{◌≡◌, ℕ, zero, suc, ◌+◌, ◌<◌, ◌≤◌, List, length, sym, refl, ap, ◌∙◌, subst, arith}
-use Rattle.std.proofs.lemmas.List.{length-map}
-use Rattle.expression.specs.Expressions.{Expr, letter, empty, pair, or, star, admits_empty}
+use Rattle.expression.specs.Expressions.{Expr, pair, or}
 use Rattle.expression.specs.Places.{letter_count, item}
-use Rattle.expression.specs.Nodes.{node, last, raw_of, expr_by, expr_at}
-use Rattle.expression.specs.Tables.{raw, letters_below, Part, part_letter, part_empty, part_pair, part_or, part_star}
+use Rattle.expression.specs.Nodes.{node, last, expr_by, expr_at}
+use Rattle.expression.specs.Tables.{letters_below, Part, part_letter, part_empty, part_pair, part_or, part_star}
 use Rattle.expression.specs.Fitted.{Shaped, letters_to}
 use Rattle.expression.specs.Fitted as fitted
 use Rattle.expression.specs.Layouts.{nodes_of, table_of, expression_of, Means}
@@ -14,7 +13,7 @@ use Rattle.expression.specs.declared.node.Shape.{Shape}
 use Rattle.expression.specs.declared.node.Shape.TheVariants.{Letter, Empty, Pair, Or, Star}
 use Rattle.expression.specs.declared.raw.RawNode.{RawNode}
 use Rattle.expression.proofs.Meaning.{layout_stands}
-use Rattle.matching.specs.Holding.{held, Two, One, Made, size, whole, Sound}
+use Rattle.matching.specs.Holding.{held, Two, Made, size, whole, Sound}
 
 part_size : (ts : List RawNode) {a b : ℕ} {e : Expr} → Part ts a b e → a + size e ≡ b
 part_size ts (part_letter q) = omega arith

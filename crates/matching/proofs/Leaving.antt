@@ -1,5 +1,5 @@
 -- Going on from a place, node by node.
-use Rattle.std.proofs.Common.{◌≡◌, ℕ, zero, suc, ◌+◌, ◌-◌, ◌^◌, ◌<◌, ◌≤◌, Bool, true, false, cond, ◌&&◌, ◌||◌, ◌⊎◌, List, [], ◌∷◌, ◌++◌, map, length, get_or, Some, None, Option, sym, refl, ap, ◌∙◌, subst, inl, inr, append_assoc, append-nil, arith, length-append}
+use Rattle.std.proofs.Common.{◌≡◌, ℕ, zero, suc, ◌+◌, ◌-◌, ◌<◌, ◌≤◌, Bool, true, false, cond, ◌&&◌, ◌||◌, ◌⊎◌, List, [], ◌∷◌, ◌++◌, length, get_or, Some, None, Option, sym, refl, ap, ◌∙◌, inl, inr, append_assoc, append-nil, arith, length-append}
 use Prim.{tt}
 use borrow.Author.Tests.{clash}
 use Rattle.std.proofs.lemmas.List.{get_or-map, get_or_append_left, get_or-append_right}
@@ -9,8 +9,8 @@ use Rattle.expression.specs.Nodes.{node, last}
 use Rattle.expression.specs.declared.node.Node.{Node}
 use Rattle.expression.specs.declared.node.Shape.TheVariants.{Pair, Or, Star}
 use Rattle.matching.specs.Holding.{held, Two, whole, Sound}
-use Rattle.matching.specs.Passes.{enters, enters_in, Entries}
-use Rattle.matching.specs.Legs.{empty_turns, Leg, then, route, leg, Put, Gone, PassReady, Passed, GoReady, Went, after_in, LeaveReady, Left, Stepped}
+use Rattle.matching.specs.Passes.{enters, enters_in}
+use Rattle.matching.specs.Legs.{empty_turns, Leg, then, route, leg, GoReady, Went, after_in, LeaveReady, Left, Stepped}
 use Rattle.matching.proofs.Holding.{made_at}
 use Rattle.matching.proofs.Passes.{continuations_append, count_continuations}
 use Rattle.matching.proofs.StepLaws.{put_put}

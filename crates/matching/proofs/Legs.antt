@@ -15,7 +15,7 @@ use Rattle.expression.specs.Walks.{Stop, after, past, stops, all_stops, choose, 
 use Rattle.expression.proofs.Members.{each_append, each_at}
 use Rattle.expression.proofs.Walking.{walk_is}
 use Rattle.expression.proofs.Finishing.{finishes_is}
-use Rattle.matching.specs.Passes.{enters, enters_in, reaches}
+use Rattle.matching.specs.Passes.{enters, reaches}
 use Rattle.matching.specs.Legs.{empty_turns, Leg, then, route, leg, rest_turns}
 
 -- The first tree without letters.

@@ -1,19 +1,19 @@
 -- The two passes over the nodes for one letter.
-use Rattle.std.proofs.Common.{◌≡◌, ℕ, zero, suc, ◌+◌, ◌<◌, ◌≤◌, Bool, true, false, ◌&&◌, ◌||◌, eqb, ltb, ◌≢◌, List, [], ◌∷◌, ◌++◌, map, length, get_or, set, sym, refl, ap, ◌∙◌, arith, length-append, get_or-set_other, get_or-set_same, le-ltb, eqb-true}
+use Rattle.std.proofs.Common.{◌≡◌, ℕ, suc, ◌+◌, ◌<◌, ◌≤◌, Bool, true, false, eqb, ltb, ◌≢◌, List, [], ◌∷◌, ◌++◌, map, length, get_or, set, sym, refl, ap, ◌∙◌, arith, length-append, get_or-set_other, get_or-set_same, le-ltb, eqb-true}
 use mathlib.Core.List.{map-map}
 use borrow.Author.Tests.{eqb-false}
 use lib.ListN.{get_or-eq_default}
 use Rattle.std.proofs.lemmas.List.{map-append, length-map}
-use Rattle.expression.specs.Expressions.{Expr, letter, empty, pair, or, star, admits_empty}
+use Rattle.expression.specs.Expressions.{Expr, letter, empty, pair, or, star}
 use Rattle.expression.specs.Places.{letter_count, Item, item, continuations}
 use Rattle.expression.specs.Nodes.{node}
 use Rattle.expression.specs.declared.node.Node.{Node}
 use Rattle.expression.specs.declared.node.Shape.{Shape}
 use Rattle.expression.specs.declared.node.Shape.TheVariants.{Letter, Empty, Pair, Or, Star}
-use Rattle.matching.specs.Holding.{held, Two, One, Made, Sound}
+use Rattle.matching.specs.Holding.{held, Two, Made, Sound}
 use Rattle.matching.specs.Rows.{bit}
 use Rattle.matching.proofs.Holding.{made_at}
-use Rattle.matching.specs.Passes.{enters, enters_in, reaches, usable_at, enters_by, Entries, onward_at, lay, bits, bits_in, Spread}
+use Rattle.matching.specs.Passes.{enters, enters_in, reaches, usable_at, enters_by, Entries, onward_at, lay, bits, Spread}
 
 pub past_end : (work : List ℕ) (base p : ℕ) → length work ≤ base + p → ltb (base + p) (length work) ≡ usable_at work base p
 past_end work base p h = rw (le-ltb (base + p) (length work) h, get_or-eq_default work 0 h)

@@ -1,17 +1,16 @@
 -- Rows of work.
-use Rattle.std.proofs.Common.{◌≡◌, ℕ, zero, suc, ◌+◌, ◌-◌, ◌*◌, ◌<◌, ◌≤◌, Bool, true, false, ◌&&◌, ◌||◌, eqb, ◌≢◌, List, [], ◌∷◌, ◌++◌, map, length, get_or, drop, set, replicate, sym, refl, ap, ◌∙◌, subst, mul-le-mul_right, add-mul, mul-le-mul_left, add-one, arith, length-append, length-drop, drop-cons}
+use Rattle.std.proofs.Common.{◌≡◌, ℕ, zero, suc, ◌+◌, ◌-◌, ◌*◌, ◌<◌, ◌≤◌, Bool, true, false, eqb, ◌≢◌, List, [], ◌∷◌, ◌++◌, length, get_or, drop, set, replicate, sym, refl, ap, ◌∙◌, mul-le-mul_right, add-mul, mul-le-mul_left, arith, length-append, length-drop}
 use mathlib.Core.Bool.{and-false}
-use Rattle.std.specs.List.{range_with_len}
 use Rattle.std.proofs.lemmas.List.FromFn.{fill_by_all, length-map-range_with_len, get_or-map-range_with_len}
 use Rattle.std.proofs.lemmas.List.{length-map, length-set, get_or-map, get_or-replicate, get_or_append_left, get_or-append_right, set_comm, set-set, drop-set-lt, get_or-set_same, get_or-set_other, drop_more, drop_all}
-use Rattle.expression.specs.Expressions.{Expr, letter, empty, pair, or, star, admits_empty}
-use Rattle.expression.specs.Places.{letter_count, Item, item, continuations, continuation, all_admit_empty, finishes}
+use Rattle.expression.specs.Expressions.{Expr, letter, empty, pair, or, star}
+use Rattle.expression.specs.Places.{letter_count, Item, continuation, all_admit_empty, finishes}
 use Rattle.expression.specs.declared.node.Node.{Node}
-use Rattle.matching.specs.Holding.{held, whole, Sound}
+use Rattle.matching.specs.Holding.{held, whole}
 use Rattle.matching.specs.Rows.{bit, row, rows, work_size, Indexed}
 use Rattle.matching.specs.Outcomes.{longest}
 use Rattle.matching.specs.Written.{written}
-use Rattle.matching.specs.Passes.{enters, enters_in, reaches, usable_at, Entries, lay, bits, afters, Rowed, RowAt}
+use Rattle.matching.specs.Passes.{enters, reaches, usable_at, Entries, lay, bits, afters, Rowed, RowAt}
 use Rattle.matching.proofs.Legs.{finishes_by}
 use Rattle.matching.proofs.Passes.{lay_append, count_continuations}
 

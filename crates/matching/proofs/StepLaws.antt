@@ -1,14 +1,12 @@
 -- The turns from one letter to the next, node by node.
-use Rattle.std.proofs.Common.{◌≡◌, ℕ, zero, suc, ◌+◌, ◌-◌, ◌^◌, ◌<◌, ◌≤◌, Bool, true, false, cond, List, [], ◌∷◌, ◌++◌, length, get_or, Some, None, Option, sym, refl, ap, ◌∙◌, subst, append_assoc, append-nil, arith, length-append}
-use Rattle.expression.specs.Expressions.{Expr, letter, empty, pair, or, star, admits_empty}
-use Rattle.expression.specs.Places.{letter_count, Item, item, continuations, continuation}
-use Rattle.expression.specs.Nodes.{node, last}
+use Rattle.std.proofs.Common.{◌≡◌, ℕ, ◌+◌, ◌^◌, ◌<◌, ◌≤◌, Bool, false, List, [], ◌++◌, length, get_or, Option, sym, refl, ap, ◌∙◌, arith, length-append}
+use Rattle.expression.specs.Expressions.{Expr, pair}
+use Rattle.expression.specs.Nodes.{node}
 use Rattle.expression.specs.declared.node.Node.{Node}
-use Rattle.expression.specs.declared.node.Shape.{Shape}
-use Rattle.expression.specs.declared.node.Shape.TheVariants.{Letter, Empty, Pair, Or, Star}
-use Rattle.matching.specs.Holding.{held, Two, One, Made, whole, Sound}
-use Rattle.matching.specs.Passes.{enters, enters_in, Entries, lay}
-use Rattle.matching.specs.Legs.{empty_turns, Leg, then, route, route_in, leg, Put, Gone, EnterReady, Entered, PassReady, Passed}
+use Rattle.expression.specs.declared.node.Shape.TheVariants.{Pair}
+use Rattle.matching.specs.Holding.{held, Two, Sound}
+use Rattle.matching.specs.Passes.{enters, Entries}
+use Rattle.matching.specs.Legs.{empty_turns, Leg, then, route_in, Put, EnterReady, Entered}
 use Rattle.matching.proofs.Holding.{made_at}
 use Rattle.matching.proofs.Passes.{lay_append}
 

@@ -1,12 +1,11 @@
 -- What is told of letters whose work is done.
-use Rattle.std.proofs.Common.{◌≡◌, ℕ, ◌+◌, ◌*◌, ◌<◌, ◌≤◌, Bool, true, false, cond, eqb, ltb, ◌≢◌, List, [], ◌∷◌, length, get_or, drop, Ok, Err, Result, sym, refl, ap, ◌∙◌, subst, mul-le-mul_right, add-mul, arith, le-ltb, lt-ltb, eq-eqb, ne_eqb}
+use Rattle.std.proofs.Common.{◌≡◌, ℕ, ◌+◌, ◌*◌, ◌<◌, ◌≤◌, Bool, true, false, cond, eqb, ltb, ◌≢◌, List, [], length, get_or, drop, Ok, Err, Result, sym, refl, ap, ◌∙◌, subst, mul-le-mul_right, add-mul, arith, le-ltb, lt-ltb, eq-eqb, ne_eqb}
 use mathlib.Core.Option.{Option, some, none as nothing}
 use borrow.Author.Tests.{clash}
 use Rattle.std.proofs.lemmas.List.{get_or_append_left}
 use Rattle.expression.specs.Expressions.{Expr}
 use Rattle.expression.specs.Trees.{Tree}
 use Rattle.expression.specs.Turns.{turns}
-use Rattle.expression.specs.Order.{First}
 use Rattle.expression.specs.Places.{letter_count, finishes}
 use Rattle.expression.specs.Search.{first_tree}
 use Rattle.expression.proofs.FirstTree.{first_some, first_none, some_first, none_first}
@@ -16,7 +15,6 @@ use Rattle.matching.specs.declared.fault.MatchFault.TheVariants.{TooLong, ShortW
 use Rattle.matching.specs.Outcomes.{longest, Reading, OneReading, Outcome, refused, told, outcome}
 use Rattle.matching.specs.Rows.{rows, work_size}
 use Rattle.matching.specs.Written.{written}
-use Rattle.matching.specs.Passes.{usable_at}
 use Rattle.matching.specs.Walked.{Tabled, Walked}
 use Rattle.matching.proofs.RowLaws.{usable_right, lay_written, count_rows, indexed}
 

@@ -1,11 +1,9 @@
 -- The walk over all letters.
-use Rattle.std.proofs.Common.{◌≡◌, ℕ, zero, suc, ◌+◌, ◌*◌, ◌^◌, ◌<◌, ◌≤◌, Bool, true, false, List, [], ◌∷◌, ◌++◌, length, get_or, drop, replicate, Option as Maybe, unwrap_or, sym, refl, ap, ◌∙◌, subst, append_assoc, arith}
+use Rattle.std.proofs.Common.{◌≡◌, ℕ, ◌+◌, ◌*◌, ◌^◌, ◌<◌, ◌≤◌, Bool, true, false, List, [], ◌∷◌, ◌++◌, length, get_or, drop, replicate, Option as Maybe, unwrap_or, sym, refl, ap, ◌∙◌, append_assoc, arith}
 use mathlib.Core.Option.{Option, some, none as nothing}
 use Rattle.std.proofs.lemmas.List.{drop_more, drop_all}
 use Rattle.expression.specs.Expressions.{Expr}
-use Rattle.expression.specs.Trees.{Tree}
 use Rattle.expression.specs.Turns.{turns}
-use Rattle.expression.specs.Order.{First}
 use Rattle.expression.specs.Optional.{omap}
 use Rattle.expression.specs.Places.{letter_count, Item, continuation, finishes}
 use Rattle.expression.specs.Walks.{walk}
@@ -15,9 +13,9 @@ use Rattle.expression.proofs.Walking.{walk_first}
 use Rattle.matching.specs.Holding.{size, whole, Sound}
 use Rattle.matching.specs.Outcomes.{longest}
 use Rattle.matching.specs.Passes.{usable_at, RowAt}
-use Rattle.matching.specs.Legs.{empty_turns, Leg, leg, rest_turns, Put, Gone, StepReady, Stepped}
+use Rattle.matching.specs.Legs.{empty_turns, leg, rest_turns, Put, Gone, StepReady, Stepped}
 use Rattle.matching.specs.Walked.{Tabled, Walked, On}
-use Rattle.matching.proofs.Legs.{Led, leads, walk_ended}
+use Rattle.matching.proofs.Legs.{leads, walk_ended}
 use Rattle.matching.proofs.RowLaws.{none, enters_none, entries_none, usable_right}
 use Rattle.matching.proofs.StepLaws.{put_put, put_none}
 use Rattle.matching.proofs.Weights.{leg_light, rest_light}

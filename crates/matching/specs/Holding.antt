@@ -1,5 +1,5 @@
 -- The part of the expression that each node of a layout holds. This serves the proofs only.
-use Rattle.std.specs.Prelude.{◌≡◌, ℕ, suc, ◌+◌, ◌<◌, ◌≤◌, List, length}
+use Rattle.std.specs.Prelude.{◌≡◌, ℕ, ◌+◌, ◌<◌, ◌≤◌, List, length}
 use Rattle.expression.specs.Expressions.{Expr, letter, empty, pair, or, star, admits_empty}
 use Rattle.expression.specs.Places.{letter_count, Item, item}
 use Rattle.expression.specs.Nodes.{node, last, expr_at}

@@ -1,5 +1,5 @@
 -- What the two passes over the nodes find out for one letter. This serves the proofs only.
-use Rattle.std.specs.Prelude.{◌≡◌, ℕ, suc, ◌+◌, ◌<◌, ◌≤◌, Bool, true, false, ◌&&◌, ◌||◌, List, [], ◌∷◌, map, length, ◌==◌, slice_index, slice_index_or, slice_set}
+use Rattle.std.specs.Prelude.{◌≡◌, ℕ, suc, ◌+◌, ◌<◌, ◌≤◌, Bool, false, ◌&&◌, ◌||◌, List, [], ◌∷◌, map, length, ◌==◌, slice_index, slice_index_or, slice_set}
 use Rattle.expression.specs.Expressions.{Expr, letter, empty, pair, or, star, admits_empty}
 use Rattle.expression.specs.Places.{letter_count, Item, item, continuations, finishes}
 use Rattle.expression.specs.Nodes.{node}

@@ -1,5 +1,6 @@
 //! Reading: the first tree of letters under a layout.
 #![tactic(auto)]
+
 pub mod fault;
 mod fill;
 pub mod laws;

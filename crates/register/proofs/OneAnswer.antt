@@ -1,8 +1,8 @@
 -- A lodging has one answer.
-use Rattle.std.proofs.Common.{◌≡◌, ℕ, ◌<◌, Bool, List, ◌∷◌, ◌++◌, length, sym, refl, ap, ◌∙◌, arith}
+use Rattle.std.proofs.Common.{◌≡◌, ℕ, Bool, List, sym, refl, ap, ◌∙◌, arith}
 use Rattle.expression.proofs.Judging.{apart, same_fault}
 use Rattle.expression.specs.declared.raw.RawNode.{RawNode}
-use Rattle.register.specs.Lodging.{Lodged, Refused, Cause, Settled, OneAnswer}
+use Rattle.register.specs.Lodging.{Lodged, Cause, OneAnswer}
 use Rattle.register.specs.declared.refusal.Refusal.{Refusal}
 use Rattle.register.specs.declared.refusal.Refusal.TheVariants.{Table, Full, NoMemory}
 

@@ -1,5 +1,5 @@
 -- What a lodging does.
-use Rattle.std.specs.Prelude.{◌≡◌, ℕ, ◌<◌, ◌≤◌, Bool, List, [], ◌∷◌, ◌++◌, length, ◌≢◌, slice_index_or}
+use Rattle.std.specs.Prelude.{◌≡◌, ℕ, ◌<◌, Bool, List, [], ◌∷◌, ◌++◌, length, ◌≢◌, slice_index_or}
 use Rattle.expression.specs.Expressions.{Expr}
 use Rattle.expression.specs.Verdicts.{Good, Faults}
 use Rattle.expression.specs.declared.raw.RawNode.{RawNode}

@@ -3,8 +3,8 @@ use Rattle.expression.specs.Layouts.{expression_of}
 use Rattle.containment.proofs.Answering.{judged_so, accepts_so, sound_so, fault_is, scene, rules_are}
 use Rattle.containment.proofs.judge.fault.Goals as goal
 
-pub rules-fault-requires : goal.rules-fault-requires
-rules-fault-requires c =
+pub rules_fault-requires : goal.rules_fault-requires
+rules_fault-requires c =
     scene c.args.earlier.now c.args.later.now c.args.rows.now _ _ c.places.ensures c.places-2.ensures _ c.in-None.ensures _ _ c.nodes.ensures
     c.nodes-in-None.ensures refl
 

@@ -22,10 +22,10 @@ returns-in-Place c =
     ∙ ap (λ (w : Want). ill_from c.args.m c.args.k w c.loop-i.i []) c.in-Place.is
     )
 
-pub returns-in-default : goal.returns-in-default
-returns-in-default c =
+pub returns-in_default : goal.returns-in_default
+returns-in_default c =
     let e : c.loop-i.i ≡ length c.args.numbers.now = omega arith in
     sym (
     c.loop-i.invariant ∙ ill_end c.args.m c.args.k c.loop-i.want c.loop-i.i c.args.numbers.now c.loop-i-test.false
-    ∙ ill_cut c.args.m c.args.k c.loop-i.want c.loop-i.i c.in-default.not-Place ∙ ap {B = Option ℕ} Some e
+    ∙ ill_cut c.args.m c.args.k c.loop-i.want c.loop-i.i c.in_default.not-Place ∙ ap {B = Option ℕ} Some e
     )

@@ -1,4 +1,4 @@
 use Rattle.containment.proofs.passes.+put_codes.Given as goal
 
-abbrev pub decreases-put-codes : goal.decreases-put-codes
-decreases-put-codes l = l.i
+abbrev pub decreases-put_codes : goal.decreases-put_codes
+decreases-put_codes l = l.i

@@ -1,4 +1,4 @@
-use Rattle.std.proofs.Common.{◌≡◌, ◌+◌, ◌*◌, map, drop}
+use Rattle.std.proofs.Common.{◌≡◌, ◌*◌, map, drop}
 use Rattle.matching.specs.Holding.{whole}
 use Rattle.matching.specs.Rows.{rows}
 use Rattle.matching.specs.Passes.{lay}

@@ -12,24 +12,24 @@ returns-then-letters-gt-LONGEST g c =
     let x = too_long (map g.K.Kind.coded c.args.letters.now) c.args.work.now c.args.turns.now (length c.args.letters.now) (length-map c.args.letters.now g.K.Kind.coded) c.if-letters-gt-LONGEST.true in
     record { answer = λ e o q r. (x e o).answer; worked = λ e o q r. (x e o).worked; turned = λ e o q r. (x e o).turned }
 
-pub overflow-mul-size : goal.overflow-mul-size
-overflow-mul-size g c = let h = size_low (length c.args.letters.now) c.row-width.result c.if-letters-gt-LONGEST.false c.row-width.ensures.low in search rules
+pub overflow_mul-size : goal.overflow_mul-size
+overflow_mul-size g c = let h = size_low (length c.args.letters.now) c.row_width.result c.if-letters-gt-LONGEST.false c.row_width.ensures.low in search rules
 
 pub returns-then-work-size : goal.returns-then-work-size
 returns-then-work-size g c =
     let x = short_work (map g.K.Kind.coded c.args.letters.now) c.args.work.now c.args.turns.now (length c.args.letters.now) (length-map c.args.letters.now g.K.Kind.coded) c.if-letters-gt-LONGEST.false in
-    let wide = c.row-width.ensures.is in
+    let wide = c.row_width.ensures.is in
     let l = c.if-work-size.true in
     record {
-      answer = λ e o q r. (x e o c.row-width.result (wide ∙ ap (λ (f : Expr). letter_count f + 1) q) l).answer;
-      worked = λ e o q r. (x e o c.row-width.result (wide ∙ ap (λ (f : Expr). letter_count f + 1) q) l).worked;
-      turned = λ e o q r. (x e o c.row-width.result (wide ∙ ap (λ (f : Expr). letter_count f + 1) q) l).turned;
+      answer = λ e o q r. (x e o c.row_width.result (wide ∙ ap (λ (f : Expr). letter_count f + 1) q) l).answer;
+      worked = λ e o q r. (x e o c.row_width.result (wide ∙ ap (λ (f : Expr). letter_count f + 1) q) l).worked;
+      turned = λ e o q r. (x e o c.row_width.result (wide ∙ ap (λ (f : Expr). letter_count f + 1) q) l).turned;
     }
 
 pub tell-requires : goal.tell-requires
 tell-requires g c =
-    let d = add-mul (length c.args.letters.now) 1 c.row-width.result in
-    let wide = c.row-width.ensures.is in
+    let d = add-mul (length c.args.letters.now) 1 c.row_width.result in
+    let wide = c.row_width.ensures.is in
     record {
       sound = c.requires;
       short = c.if-letters-gt-LONGEST.false;
@@ -40,6 +40,6 @@ tell-requires g c =
 pub returns : goal.returns
 returns g c =
     let x = told_of (map g.K.Kind.coded c.args.letters.now) c.args.work.now c.args.turns.now (length c.args.letters.now) (length-map c.args.letters.now g.K.Kind.coded) c.if-letters-gt-LONGEST.false
-    c.row-width.result c.if-work-size.false (whole c.args.nodes.now) c.row-width.ensures.is c.tell.result c.fill.new.work c.tell.new.turns c.fill.ensures
+    c.row_width.result c.if-work-size.false (whole c.args.nodes.now) c.row_width.ensures.is c.tell.result c.fill.new.work c.tell.new.turns c.fill.ensures
     c.tell.ensures.answer c.tell.ensures.turned in
     record { answer = λ e o q r. (x e o q r).answer; worked = λ e o q r. (x e o q r).worked; turned = λ e o q r. (x e o q r).turned }

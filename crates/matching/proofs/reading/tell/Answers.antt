@@ -1,4 +1,4 @@
-use Rattle.std.proofs.Common.{map, arith}
+use Rattle.std.proofs.Common.{map}
 use Rattle.std.proofs.lemmas.List.{length-map}
 use Rattle.matching.specs.Holding.{whole}
 use Rattle.matching.proofs.Telling.{alive, told_none, told_short, told_all}

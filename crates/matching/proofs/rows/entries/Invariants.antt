@@ -1,4 +1,4 @@
-use Rattle.std.proofs.Common.{◌≡◌, ℕ, length}
+use Rattle.std.proofs.Common.{◌≡◌, length}
 use Rattle.matching.specs.Passes.{Entries, usable_at}
 use Rattle.matching.proofs.rows.entries.Given as goal
 

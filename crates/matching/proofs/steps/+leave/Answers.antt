@@ -34,8 +34,8 @@ leave-reached-requires-in-Star t c =
     let l : c.read-node.result.second < c.args.i = x.low in
     (omega (arith, c.decreases), (c.requires.sound, child_ready c.args.nodes.now c.requires.sound c.args.entered.now c.args.p c.args.i c.args.at c.requires.ready c.read-node.result c.read-node.ensures c.read-node.result.second _ x))
 
-pub go-on-requires : goal.go-on-requires
-go-on-requires t c =
+pub go_on-requires : goal.go_on-requires
+go_on-requires t c =
     let x = in_pair c.args.nodes.now c.requires.sound c.args.entered.now c.args.p c.args.i c.args.at c.requires.ready c.read-node.result c.read-node.ensures c.read.result c.read.ensures c.in-Pair.is c.if-early.true in
     let m = made_at c.args.nodes.now c.requires.sound c.args.i c.requires.ready.inside c.read-node.result c.read-node.ensures Pair c.in-Pair.is in
     let h : c.read-node.result.second < length c.args.nodes.now = omega (arith, m.second_low, c.requires.ready.inside) in
@@ -52,10 +52,10 @@ returns-then-early t c =
     let m = made_at c.args.nodes.now c.requires.sound c.args.i c.requires.ready.inside c.read-node.result c.read-node.ensures Pair c.in-Pair.is in
     let h : c.read-node.result.second < length c.args.nodes.now = omega (arith, m.second_low, c.requires.ready.inside) in
     left_then c.args.nodes.now c.requires.sound c.args.entered.now c.args.p c.args.i c.args.at c.requires.ready c.read-node.result c.read-node.ensures c.read-node.result.first c.read-node.result.second h x c.leave-reached.result.count c.args.turns.now c.leave-reached.new.turns
-    c.leave-reached.result.place c.leave-reached.ensures c.go-on.result.count c.go-on.result.place c.go-on.new.turns c.go-on.ensures
+    c.leave-reached.result.place c.leave-reached.ensures c.go_on.result.count c.go_on.result.place c.go_on.new.turns c.go_on.ensures
 
-pub go-on-requires-in-Star : goal.go-on-requires-in-Star
-go-on-requires-in-Star t c = record {
+pub go_on-requires-in-Star : goal.go_on-requires-in-Star
+go_on-requires-in-Star t c = record {
   sound = c.requires.sound;
   ready =
       go_ready c.args.nodes.now c.requires.sound c.args.entered.now c.args.p c.args.i c.args.at c.requires.ready c.read-node.result c.read-node.ensures c.read-node.result.second c.args.i c.requires.ready.inside (in_star c.args.nodes.now c.requires.sound c.args.entered.now c.args.p c.args.i c.args.at c.requires.ready c.read-node.result c.read-node.ensures c.in-Star.is)
@@ -66,7 +66,7 @@ pub returns-in-Star : goal.returns-in-Star
 returns-in-Star t c =
     left_then c.args.nodes.now c.requires.sound c.args.entered.now c.args.p c.args.i c.args.at c.requires.ready c.read-node.result c.read-node.ensures c.read-node.result.second c.args.i c.requires.ready.inside (in_star c.args.nodes.now c.requires.sound c.args.entered.now c.args.p c.args.i c.args.at c.requires.ready c.read-node.result c.read-node.ensures c.in-Star.is)
     c.leave-reached-in-Star.result.count c.args.turns.now c.leave-reached-in-Star.new.turns c.leave-reached-in-Star.result.place c.leave-reached-in-Star.ensures
-    c.go-on-in-Star.result.count c.go-on-in-Star.result.place c.go-on-in-Star.new.turns c.go-on-in-Star.ensures
+    c.go_on-in-Star.result.count c.go_on-in-Star.result.place c.go_on-in-Star.new.turns c.go_on-in-Star.ensures
 
 pub returns-else-early : goal.returns-else-early
 returns-else-early t c =

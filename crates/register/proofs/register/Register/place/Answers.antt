@@ -17,7 +17,7 @@ returns-then-number-ge-ROOM g c =
 pub returns : goal.returns
 returns g c =
     let r = c.args.self.now in
-    let done : is_ok c.push.result ≡ true = c.is-err.ensures.negation ∙ ap not c.if-is-err.false in
+    let done : is_ok c.push.result ≡ true = c.is_err.ensures.negation ∙ ap not c.if-is_err.false in
     let items = rw done at c.push.ensures.items in
     let p = placed (vec_items r.layouts) c.args.layout (vec_items c.push.new.self) c.len-number.result
     items (c.len-number.ensures ∙ r.layouts.ok.0) (omega arith) in
