@@ -1,6 +1,6 @@
 //! Lines as parts of a text.
 ghost use Rattle.std.specs.Prelude.{◌≡◌};
-ghost use Rattle.script.specs.Lines.{numbered as «line-numbered», text_of};
+ghost use Rattle.script.specs.Lines.{numbered as line_numbered, text_of};
 ghost use Rattle.text.specs.Lines.{lines};
 
 use crate::source::{Excerpt, Source};
@@ -8,7 +8,7 @@ use text::lines::next_line;
 
 /// The line with the number `line`, from 1, or nothing where the text has none.
 fn numbered<'a>(text: &'a [u8], line: usize) -> &'a [u8]
-    ensures { result.now ≡ «line-numbered» (lines text.now) line }
+    ensures { result.now ≡ line_numbered (lines text.now) line }
 {
     if line == 0 {
         return &text[..0];
@@ -29,7 +29,7 @@ fn numbered<'a>(text: &'a [u8], line: usize) -> &'a [u8]
 pub fn excerpt<'a>(script: &'a [u8], file: &'a [u8], source: Source, line: usize) -> Excerpt<'a>
     ensures source { result.source ≡ source }
     ensures line { result.line ≡ line }
-    ensures bytes { result.bytes.now ≡ «line-numbered» (lines (text_of source script.now file.now)) line }
+    ensures bytes { result.bytes.now ≡ line_numbered (lines (text_of source script.now file.now)) line }
 {
     let text = match source {
         Source::Script => script,

@@ -1,8 +1,8 @@
 //! Cutting a line into tokens.
 ghost use Rattle.std.specs.Prelude.{◌≡◌, ◌<◌, ◌≤◌, true, ◌∷◌, length, MatchResult, slice_index};
-ghost use Rattle.script.specs.Tokens.{known, belongs as «in-run», at as placed, run_token, decimal};
+ghost use Rattle.script.specs.Tokens.{known, belongs as in_run, at as placed, run_token, decimal};
 ghost use Rattle.text.specs.Parts.{part};
-ghost use Rattle.script.specs.Lexing.{begins as «begins-token», ahead, Took, valued};
+ghost use Rattle.script.specs.Lexing.{begins as begins_token, ahead, Took, valued};
 ghost use Rattle.script.specs.Bytes.{Known, Spoils};
 
 use crate::fault::TokenFault;
@@ -17,14 +17,14 @@ fn is_known(b: u8) -> bool
 
 /// Whether a token begins with the byte.
 fn begins(b: u8) -> bool
-    ensures { result ≡ «begins-token» b }
+    ensures { result ≡ begins_token b }
 {
     matches!(b as char, 'a'..='z' | '0'..='9' | '(' | ')' | '-')
 }
 
 /// Whether the byte goes on in a run.
 fn belongs(run: Run, b: u8) -> bool
-    ensures { result ≡ «in-run» run b }
+    ensures { result ≡ in_run run b }
 {
     match run {
         Run::Letters => matches!(b as char, 'a'..='z'),
@@ -49,7 +49,7 @@ fn skip(line: &[u8], at: usize) -> usize
     requires { at ≤ length line.now }
     ensures within { result ≤ length line.now }
     ensures same { ahead line.now at ≡ ahead line.now result }
-    ensures begins { result < length line.now → «begins-token» (slice_index line.now result) ≡ true }
+    ensures begins { result < length line.now → begins_token (slice_index line.now result) ≡ true }
 {
     let mut j = at;
     while j < line.len() && !begins(line[j]) {
@@ -61,7 +61,7 @@ fn skip(line: &[u8], at: usize) -> usize
 /// Where the run that begins at `from` ends.
 fn run_end(line: &[u8], from: usize, run: Run) -> usize
     requires from_in_bounds { from < length line.now }
-    requires from_value { «in-run» run (slice_index line.now from) ≡ true }
+    requires from_value { in_run run (slice_index line.now from) ≡ true }
     ensures within { (from ≤ result) × (result ≤ length line.now) }
     ensures token { ahead line.now from ≡ placed from (run_token run (part line.now from result)) ∷ ahead line.now result }
 {

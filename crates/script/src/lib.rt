@@ -1,5 +1,6 @@
 //! Scripts: reading a line into a form, and running a whole script on a register.
 #![tactic(auto)]
+
 pub mod answer;
 pub mod excerpt;
 pub mod fault;

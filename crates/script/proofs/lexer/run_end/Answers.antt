@@ -3,7 +3,7 @@ use Rattle.script.proofs.Cutting.{run_begins, run_grows, run_ends}
 use Rattle.script.proofs.lexer.run_end.Goals as goal
 
 pub loop-j-init : goal.loop-j-init
-loop-j-init c = (omega arith, omega arith, run_begins c.args.line.now c.args.run c.args.from c.requires.0 c.requires.1)
+loop-j-init c = (omega arith, omega arith, run_begins c.args.line.now c.args.run c.args.from c.requires.from_in_bounds c.requires.from_value)
 
 pub loop-j-preserved : goal.loop-j-preserved
 loop-j-preserved c =

@@ -10,8 +10,8 @@ use Rattle.script.proofs.running.run.Goals as goal
 pub returns-then-script-gt-LONGEST : goal.returns-then-script-gt-LONGEST
 returns-then-script-gt-LONGEST g c =
     let printed =
-    only_text _ _ _ c.new-out.ensures.items c.in-ok-extend-from-slice.ensures.items
-    ∙ (c.as-bytes.ensures.value ∙ (c.in-ok-text.ensures ∙ ap refused_text c.figures.ensures)) in
+    only_text _ _ _ c.new-out.ensures.items c.in_ok-extend_from_slice.ensures.items
+    ∙ (c.as_bytes.ensures.value ∙ (c.in_ok-text.ensures ∙ ap refused_text c.figures.ensures)) in
     subst (Transcript (dialect c.args.kind) (gives g.K.Kind.lettered) c.args.script.now) (sym printed) (too_long c.if-script-gt-LONGEST.true)
 
 pub loop-line-init : goal.loop-line-init
@@ -22,12 +22,12 @@ respond-requires g c =
     numbered_line (dialect c.args.kind) (gives g.K.Kind.lettered) c.args.script.now c.loop-line.from c.loop-line.number _ _ c.loop-line.invariant
     c.in-Some.line.bytes.now c.in-Some.line.next c.in-Some.ensures.cut
 
-pub overflow-add-number : goal.overflow-add-number
-overflow-add-number g c = omega (arith, c.loop-line.invariant.few, c.loop-line.invariant.within, c.if-script-gt-LONGEST.false)
+pub overflow_add-number : goal.overflow_add-number
+overflow_add-number g c = omega (arith, c.loop-line.invariant.few, c.loop-line.invariant.within, c.if-script-gt-LONGEST.false)
 
 pub loop-line-preserved : goal.loop-line-preserved
 loop-line-preserved g c =
-    let told = c.in-ok-respond.ensures in
+    let told = c.in_ok-respond.ensures in
     go_on (dialect c.args.kind) (gives g.K.Kind.lettered) c.args.script.now c.loop-line.from c.loop-line.number _ _ c.loop-line.invariant
     c.in-Some.line.bytes.now c.in-Some.line.next c.in-Some.ensures.cut c.in-Some.ensures.onward (omega (arith, c.in-Some.ensures.next))
     _ _ told.0 told.1 told.2
@@ -35,4 +35,4 @@ loop-line-preserved g c =
 pub returns : goal.returns
 returns g c =
     ran c.if-script-gt-LONGEST.false
-    (finished (dialect c.args.kind) (gives g.K.Kind.lettered) c.args.script.now c.loop-line.from c.loop-line.number _ _ c.loop-line.invariant c.in-default.ensures.cut)
+    (finished (dialect c.args.kind) (gives g.K.Kind.lettered) c.args.script.now c.loop-line.from c.loop-line.number _ _ c.loop-line.invariant c.in_default.ensures.cut)
