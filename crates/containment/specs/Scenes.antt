@@ -15,8 +15,8 @@ pub record Scene (earlier later : List Node) (ns : List ℕ) : Type 0 where
   pub formed : Formed (letter_count (whole earlier)) (letter_count (whole later)) (rows_of ns) ns
 
 -- The same, with the tables that are made once.
-pub record Ready (earlier later : List Node) (earlier-codes later-codes ns : List ℕ) (index : Index) : Type 0 where
+pub record Ready (earlier later : List Node) (earlier_codes later_codes ns : List ℕ) (index : Index) : Type 0 where
   pub scene : Scene earlier later ns
-  pub earlier_coded : AllCoded earlier earlier-codes
-  pub later_coded : AllCoded later later-codes
+  pub earlier_coded : AllCoded earlier earlier_codes
+  pub later_coded : AllCoded later later_codes
   pub indexed : Indexed ns index

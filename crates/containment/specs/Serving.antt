@@ -23,4 +23,4 @@ serving_by rows follow codes c f = first (serves_by follow codes c f) 0 rows
 
 -- Is f a follower that no row serves?
 abbrev pub unserved_by : List Row → List Bool → List ℕ → List Bool → List ℕ → ℕ → Bool
-unserved_by rows followers earlier-codes follow codes f = marked followers f && is_none (serving_by rows follow codes (slice_index earlier-codes f) f)
+unserved_by rows followers earlier_codes follow codes f = marked followers f && is_none (serving_by rows follow codes (slice_index earlier_codes f) f)

@@ -3,6 +3,7 @@
 //! The lists are slow for a look-up that goes through all the rows: every place of the earlier layout follows every other, and where a row
 //! of one place is judged, the first row of most followers fails only at the last place of its set.
 #![tactic(auto)]
+
 use alphabet::bytes::Bytes;
 use containment::judge::judge_rows;
 use containment::word::refutes;

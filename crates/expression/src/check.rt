@@ -1,7 +1,7 @@
 //! The check of a table of nodes.
 ghost use Rattle.std.specs.Prelude.{◌≡◌, ℕ, ◌<◌, ◌≤◌, Bool, length};
 ghost use Rattle.expression.specs.Checking.{Checked, FirstMute};
-ghost use Rattle.expression.specs.Making.{Laid, leaf as leaf-node, letters_of, next_node, over as over-node, over_two as over-two-nodes};
+ghost use Rattle.expression.specs.Making.{Laid, leaf as leaf_node, letters_of, next_node, over as over_node, over_two as over_two_nodes};
 ghost use Rattle.expression.specs.Nodes.{admits_by};
 ghost use Rattle.expression.specs.Verdicts.{Answers, gives};
 
@@ -40,7 +40,7 @@ fn letters(nodes: &[Node]) -> u8
 /// A node without children that stands after `nodes`.
 fn leaf(nodes: &[Node], shape: Shape, code: u16, letters: u8) -> Node
     requires short { length nodes.now < 255 }
-    ensures { result ≡ leaf-node nodes.now shape code letters }
+    ensures { result ≡ leaf_node nodes.now shape code letters }
 {
     let start = nodes.len() as u8;
     let empty = admits(shape, false, false);
@@ -59,7 +59,7 @@ fn leaf(nodes: &[Node], shape: Shape, code: u16, letters: u8) -> Node
 fn over(nodes: &[Node], shape: Shape, first: usize) -> Node
     requires short { length nodes.now < 255 }
     requires within { first < length nodes.now }
-    ensures { result ≡ over-node nodes.now shape first }
+    ensures { result ≡ over_node nodes.now shape first }
 {
     let second = nodes.len() - 1;
     let left = nodes[first];
@@ -80,7 +80,7 @@ fn over(nodes: &[Node], shape: Shape, first: usize) -> Node
 fn over_two(nodes: &[Node], shape: Shape) -> Option<Node>
     requires laid { Laid nodes.now }
     requires short { length nodes.now < 255 }
-    ensures { result ≡ over-two-nodes nodes.now shape }
+    ensures { result ≡ over_two_nodes nodes.now shape }
 {
     let second = nodes.len().checked_sub(1)?;
     let first = usize::from(nodes[second].start).checked_sub(1)?;

@@ -1,7 +1,7 @@
 //! The turns of the first tree of a node that spells nothing.
 ghost use Rattle.std.specs.Prelude.{◌≡◌, ◌^◌, ◌<◌, length, if◌then◌else◌};
 ghost use Rattle.expression.specs.Layouts.{nodes_of};
-ghost use Rattle.expression.specs.Nodes.{node as Node-at};
+ghost use Rattle.expression.specs.Nodes.{node as node_at};
 ghost use Rattle.expression.specs.Passing.{Put, Skips};
 ghost use Rattle.expression.specs.Spelling.{counted, empty_turns_at, listed, written};
 
@@ -20,8 +20,8 @@ struct Side {
 /// The first side of the or `here` that admits the empty word, if any does.
 fn empty_side(layout: &Layout, here: Node) -> Side
     requires { here.first < length (nodes_of layout.now) }
-    ensures turn { result.turn ≡ (if (Node-at (nodes_of layout.now) here.first).admits then 0 else 1) }
-    ensures node { result.node ≡ (if (Node-at (nodes_of layout.now) here.first).admits then here.first else here.second) }
+    ensures turn { result.turn ≡ (if (node_at (nodes_of layout.now) here.first).admits then 0 else 1) }
+    ensures node { result.node ≡ (if (node_at (nodes_of layout.now) here.first).admits then here.first else here.second) }
 {
     if read(layout, here.first).admits {
         Side {
@@ -63,7 +63,7 @@ fn put_below(layout: &Layout, i: u8, turns: &mut [u8], at: u128) -> u8
 
 /// Does the layout have a node with this number whose part admits the empty word?
 fn admits(layout: &Layout, node: u8) -> bool
-    ensures { result ≡ (Node-at (nodes_of layout.now) node).admits }
+    ensures { result ≡ (node_at (nodes_of layout.now) node).admits }
 {
     if usize::from(node) >= layout.nodes.len() {
         return false;

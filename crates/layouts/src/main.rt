@@ -1,5 +1,6 @@
 //! Runs a script over marks, from standard input to standard output.
 #![tactic(auto)]
+
 use script::input::{read_feed, read_text};
 use script::running::run_marks;
 use std::io;

@@ -1,5 +1,6 @@
 //! Reads long words under large layouts. Standard output has what is answered, standard error how long it took.
 #![tactic(auto)]
+
 use alphabet::bytes::Bytes;
 use expression::layout::Layout;
 use expression::raw::RawNode;

@@ -1,6 +1,7 @@
 //! Reads cases from standard input, one to a line, and prints the turns of the first tree and the work of each.
 //! A case is an expression in postfix, a space and a word. In an expression `1` is the empty word, `.` a pair, `|` an or, `*` a star, and any other byte a letter.
 #![tactic(auto)]
+
 use alphabet::bytes::Bytes;
 use expression::layout::Layout;
 use expression::raw::RawNode;

@@ -1,6 +1,6 @@
 //! The work of a reading, row by row: which places can finish which letters.
 ghost use Rattle.std.specs.Prelude.{◌≡◌, ℕ, ◌+◌, ◌^◌, ◌<◌, ◌≤◌, false, List, [], ◌∷◌, length};
-ghost use Rattle.expression.specs.Nodes.{node as Node-at};
+ghost use Rattle.expression.specs.Nodes.{node as node_at};
 ghost use Rattle.expression.specs.Places.{letter_count};
 ghost use Rattle.matching.specs.Holding.{Sound, held, whole};
 ghost use Rattle.matching.specs.Rows.{row};
@@ -10,7 +10,7 @@ use expression::node::{Node, Shape};
 
 /// The node with number `i`; past the last one, a letter node with nothing in it.
 pub(crate) fn read(nodes: &[Node], i: u8) -> Node
-    ensures { result ≡ Node-at nodes.now i }
+    ensures { result ≡ node_at nodes.now i }
 {
     let i = i as usize;
     if i < nodes.len() {
@@ -40,7 +40,7 @@ fn usable(work: &[u8], base: usize, place: u8) -> bool
 /// May a letter with this code be the first one in node `i`? Its children's answers stand in `entered`.
 fn enters(nodes: &[Node], entered: &[bool; 256], code: u16, work: &[u8], base: usize, i: u8) -> bool
     requires { base < 2 ^ 62 }
-    ensures { result ≡ enters_by nodes.now entered.now code (usable_at work.now base) (Node-at nodes.now i) (Node-at nodes.now i).shape }
+    ensures { result ≡ enters_by nodes.now entered.now code (usable_at work.now base) (node_at nodes.now i) (node_at nodes.now i).shape }
 {
     let node = read(nodes, i);
     let first = entered[node.first as usize];

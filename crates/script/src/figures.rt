@@ -1,6 +1,6 @@
 //! The figures of a fault, and how one wraps another.
 ghost use Rattle.std.specs.Prelude.{◌≡◌};
-ghost use Rattle.script.specs.Faults.{number as fault-number, place as fault-place, wrapped, no_memory};
+ghost use Rattle.script.specs.Faults.{number as fault_number, place as fault_place, wrapped, no_memory};
 
 use crate::fault::{FormFault, TokenFault};
 use std::alloc::AllocFailed;
@@ -8,7 +8,7 @@ use std::alloc::AllocFailed;
 impl FormFault {
     /// The number that tells what is wrong.
     pub fn number(self) -> u8
-        ensures { result ≡ fault-number self }
+        ensures { result ≡ fault_number self }
     {
         match self {
             FormFault::Token(TokenFault::BadByte(_)) => 51,
@@ -21,7 +21,7 @@ impl FormFault {
 
     /// The byte from 1 at which it is wrong; 0 for want of memory.
     pub fn place(self) -> usize
-        ensures { result ≡ fault-place self }
+        ensures { result ≡ fault_place self }
     {
         match self {
             FormFault::Token(TokenFault::BadByte(at)) => at,

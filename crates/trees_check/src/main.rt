@@ -1,6 +1,7 @@
 //! Spells trees along layouts of bytes. Each line of the input has an expression, children first, and turns:
 //! a letter is `a` to `z`, and `.` is the empty word, `&` a pair, `|` an or, `*` a star; no turns are `-`.
 #![tactic(auto)]
+
 use alphabet::bytes::Bytes;
 use expression::layout::Layout;
 use expression::raw::RawNode;
