@@ -6,7 +6,7 @@ use Rattle.expression.specs.Expressions.{Expr}
 use Rattle.expression.specs.Places.{letter_count, code, follows, may_end, finishes}
 use Rattle.expression.proofs.PlaceTheorems.{automaton, finishing}
 use Rattle.containment.specs.Rows.{Row, row, Among, Rises, Ranged}
-use Rattle.containment.specs.Rules.{Ends, Serves, Goes_on, Keeps}
+use Rattle.containment.specs.Rules.{Ends, Serves, GoesOn, Keeps}
 use Rattle.containment.specs.Refuting.{Refutes}
 use Rattle.containment.specs.Theorems.{RowsOrWord}
 use Rattle.containment.specs.Checking.{if_then, stepped, ends_too}
@@ -180,7 +180,7 @@ module _ (a b : Expr) where
     was r (inl e) = subst (λ (v : Row). Among v every × (alive n v ≡ true)) (sym e) (first_in, begun)
     was r (inr m) = filter_was (alive n) every r m
 
-    on : (r : Row) → alive (suc n) r ≡ true → Goes_on a b rows r
+    on : (r : Row) → alive (suc n) r ≡ true → GoesOn a b rows r
     on r t f fol =
         let m = in_places a r.place f fol in (
           next r f,

@@ -11,7 +11,7 @@ use Rattle.containment.specs.declared.fault.WordFault.{WordFault}
 use Rattle.containment.specs.declared.fault.WordFault.TheVariants.{NotEarlier, AlsoLater}
 use Rattle.containment.specs.Rows.{Row, row, row_at, Among}
 use Rattle.containment.specs.Format.{ill, rows_of, Formed}
-use Rattle.containment.specs.Rules.{Begins, Ends, Serves, Served, Goes_on, Keeps}
+use Rattle.containment.specs.Rules.{Begins, Ends, Serves, Served, GoesOn, Keeps}
 use Rattle.containment.specs.Verdicts.{KeptBelow, FirstUnserved, Breaks, Judged}
 use Rattle.containment.specs.Refuting.{WordJudged}
 use Rattle.containment.specs.Theorems.{OneVerdicts}
@@ -148,7 +148,7 @@ module _ (a b : Expr) where
       un = unserved a b rows r
 
       abbrev Unserved : Option ℕ → Type 0
-      Unserved None = Goes_on a b rows r
+      Unserved None = GoesOn a b rows r
       Unserved (Some f) = FirstUnserved a b rows r f
 
       -- A follower is one of 1 to the last place.
@@ -169,7 +169,7 @@ module _ (a b : Expr) where
 
     -- What the fault of row n tells of it.
     abbrev RowTells : ℕ → Row → Option RowsFault → Type 0
-    RowTells n r None = Ends a b r × Goes_on a b rows r
+    RowTells n r None = Ends a b r × GoesOn a b rows r
     RowTells n r (Some (IllFormed i)) = ⊥
     RowTells n r (Some Start) = ⊥
     RowTells n r (Some (End i)) = (i ≡ n) × (Ends a b r → ⊥)
@@ -210,7 +210,7 @@ module _ (a b : Expr) where
     Told (Some x) = Breaks a b rows x
 
     abbrev Fine : ℕ → Type 0
-    Fine i = Ends a b (row_at rows i) × Goes_on a b rows (row_at rows i)
+    Fine i = Ends a b (row_at rows i) × GoesOn a b rows (row_at rows i)
 
     below_more : (n : ℕ) → ((i : ℕ) → i < n → Fine i) → Fine n → (i : ℕ) → i < suc n → Fine i
     below_more n low top i h = elim (dec_lt i n) [ yes l ↦ low i l | no f ↦ let e : n ≡ i = omega (arith, h, f) in subst Fine e top ]
@@ -220,7 +220,7 @@ module _ (a b : Expr) where
       kept h = record {
         begins = b₁;
         ends = λ r m. let (n, l, e) = in_nth (row 0 []) rows r m in subst (Ends a b) e (h n l).0;
-        goes_on = λ r m. let (n, l, e) = in_nth (row 0 []) rows r m in subst (Goes_on a b rows) e (h n l).1;
+        goes_on = λ r m. let (n, l, e) = in_nth (row 0 []) rows r m in subst (GoesOn a b rows) e (h n l).1;
       }
 
       below : (n : ℕ) → n < length rows → ((i : ℕ) → i < n → Fine i) → KeptBelow a b rows n

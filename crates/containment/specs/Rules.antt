@@ -24,11 +24,11 @@ abbrev pub Served : Expr → Expr → List Row → Row → ℕ → Type 0
 Served a b rows r f = (o : Row) × Among o rows × Serves a b r f o
 
 -- Rule 3: each follower of the row's place is served.
-abbrev pub Goes_on : Expr → Expr → List Row → Row → Type 0
-Goes_on a b rows r = (f : ℕ) → follows a r.place f ≡ true → Served a b rows r f
+abbrev pub GoesOn : Expr → Expr → List Row → Row → Type 0
+GoesOn a b rows r = (f : ℕ) → follows a r.place f ≡ true → Served a b rows r f
 
 -- The rows keep the rules.
 pub record Keeps (a b : Expr) (rows : List Row) : Type 0 where
   pub begins : Begins rows
   pub ends : (r : Row) → Among r rows → Ends a b r
-  pub goes_on : (r : Row) → Among r rows → Goes_on a b rows r
+  pub goes_on : (r : Row) → Among r rows → GoesOn a b rows r

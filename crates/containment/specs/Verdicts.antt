@@ -6,14 +6,14 @@ use Rattle.containment.specs.declared.fault.RowsFault.{RowsFault}
 use Rattle.containment.specs.declared.fault.RowsFault.TheVariants.{IllFormed, Start, End, Follower}
 use Rattle.containment.specs.Rows.{Row, row_at}
 use Rattle.containment.specs.Format.{ill, rows_of, Formed}
-use Rattle.containment.specs.Rules.{Begins, Ends, Served, Goes_on, Keeps}
+use Rattle.containment.specs.Rules.{Begins, Ends, Served, GoesOn, Keeps}
 
 -- Rule 1 and, of each row below number n, rules 2 and 3 are kept.
 pub record KeptBelow (a b : Expr) (rows : List Row) (n : ℕ) : Type 0 where
   pub within : n < length rows
   pub begins : Begins rows
   pub ends : (i : ℕ) → i < n → Ends a b (row_at rows i)
-  pub goes_on : (i : ℕ) → i < n → Goes_on a b rows (row_at rows i)
+  pub goes_on : (i : ℕ) → i < n → GoesOn a b rows (row_at rows i)
 
 -- f is the lowest follower of the row's place that no row serves.
 pub record FirstUnserved (a b : Expr) (rows : List Row) (r : Row) (f : ℕ) : Type 0 where

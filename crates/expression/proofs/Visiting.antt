@@ -10,7 +10,7 @@ use Rattle.expression.specs.declared.walk.Step.{Step}
 use Rattle.expression.specs.declared.walk.Step.TheVariants.{Letter, On, Done, NoTree}
 use Rattle.expression.specs.declared.walk.Walk.{Walk}
 use Rattle.expression.specs.Expressions.{Expr, letter, empty, pair, or, star}
-use Rattle.expression.specs.Following.{size, Due, due, along, dues, dues_of, weight, left, Bounded, Ready, Next, pushed, turn_at, Goes_on, Leaves, Visited, Moved}
+use Rattle.expression.specs.Following.{size, Due, due, along, dues, dues_of, weight, left, Bounded, Ready, Next, pushed, turn_at, GoesOn, Leaves, Visited, Moved}
 use Rattle.expression.specs.Layouts.{nodes_of}
 use Rattle.expression.specs.Nodes.{node, expr_at}
 use Rattle.expression.proofs.Sizes.{node_size, made_as, lower_as}
@@ -57,7 +57,7 @@ module _ (l : Layout) (ts : List ℕ) where
         taken = b.taken;
       }
 
-  gone : (w w' : Walk) (n m : ℕ) → Bounded l ts w' → w'.letters ≡ w.letters + n → n + left l ts w' ≤ m → left l ts w' < m → w.letters + m ≤ 255 * (length ts + 1) → Goes_on l ts w n m w'
+  gone : (w w' : Walk) (n m : ℕ) → Bounded l ts w' → w'.letters ≡ w.letters + n → n + left l ts w' ≤ m → left l ts w' < m → w.letters + m ≤ 255 * (length ts + 1) → GoesOn l ts w n m w'
   gone w w' n m b e p q f = record { ready = record { bounded = b; few = omega (arith, e, p, f) }; letters = e; less = q }
 
   -- Two nodes on top: b, once o letters are passed, and over it a.

@@ -97,15 +97,15 @@ after Done o = some []
 after NoTree o = nothing
 
 -- The walk w' can go on, is after the walk w by n letters, and has less to do than m.
-pub record Goes_on (l : Layout) (ts : List ℕ) (w : Walk) (n m : ℕ) (w' : Walk) : Type 0 where
+pub record GoesOn (l : Layout) (ts : List ℕ) (w : Walk) (n m : ℕ) (w' : Walk) : Type 0 where
   pub ready : Ready l ts w'
   pub letters : w'.letters ≡ w.letters + n
   pub less : left l ts w' < m
 
 -- What a step leaves: less to do, unless it ends the walk.
 abbrev pub Leaves : Layout → List ℕ → Walk → ℕ → Step → Walk → Type 0
-Leaves l ts w m (Letter c) w' = Goes_on l ts w 1 m w'
-Leaves l ts w m On w' = Goes_on l ts w 0 m w'
+Leaves l ts w m (Letter c) w' = GoesOn l ts w 1 m w'
+Leaves l ts w m On w' = GoesOn l ts w 0 m w'
 Leaves l ts w m Done w' = w'.letters ≡ w.letters
 Leaves l ts w m NoTree w' = Unit {0}
 

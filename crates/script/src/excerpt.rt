@@ -49,9 +49,9 @@ mod tests {
     #[test]
     fn excerpts(rt: HostRuntime) {
         let script = b"a\n\nbc\n";
-        assert!(rt; excerpt(script, b"d", Source::Script, 3).bytes == b"bc");
+        assert!(rt; excerpt(script, b"d", Source::Script, 3).bytes == b"bc".as_slice());
         assert!(rt; excerpt(script, b"d", Source::Script, 4).bytes.is_empty());
         assert!(rt; excerpt(script, b"d", Source::File, 0).bytes.is_empty());
-        assert!(rt; excerpt(script, b"d", Source::File, 1).bytes == b"d");
+        assert!(rt; excerpt(script, b"d", Source::File, 1).bytes == b"d".as_slice());
     }
 }

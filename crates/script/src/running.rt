@@ -180,7 +180,7 @@ mod tests {
         assert!(rt; out.as_slice().starts_with(b"(refused 52 1 16385)\n>  "));
         script.push(b' ')?;
         let out = run_bytes(rt.alloc(), &script, b"")?;
-        assert!(rt; out.as_slice() == b"(refused 54 0 0)\n");
+        assert!(rt; out.as_slice() == b"(refused 54 0 0)\n".as_slice());
         Ok(())
     }
 }
