@@ -1,4 +1,4 @@
--- A byte and its code give each other.
+-- A byte and its code give each other. This file serves the proofs only: the impl of bytes names its two lemmas, `back` and `only`.
 use Rattle.std.specs.Prelude.{◌≡◌, ℕ, ◌<◌, Some}
 use Rattle.std.proofs.Common.{arith}
 use Rattle.alphabet.specs.Codes.{byte_letter}

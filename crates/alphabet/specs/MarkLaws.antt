@@ -1,4 +1,4 @@
--- A mark and its code give each other.
+-- A mark and its code give each other. This file serves the proofs only: the impl of marks names `back` and `only`.
 use Rattle.std.specs.Prelude.{◌≡◌, ℕ, ◌+◌, ◌*◌, ◌/◌, ◌%◌, ◌<◌, Bool, true, false, cond, Some, None, Option, ◌==◌, refl}
 use Rattle.std.proofs.Common.{sym, ap, ◌∙◌, eqb-true, arith}
 use Rattle.std.proofs.Math.Bridge.{le_prop}
