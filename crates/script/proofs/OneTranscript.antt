@@ -1,5 +1,5 @@
 -- A script prints one thing.
-use Rattle.std.proofs.Common.{◌≡◌, ℕ, suc, ◌+◌, ◌<◌, ◌≤◌, Bool, true, false, List, [], ◌∷◌, ◌++◌, length, Some, vec_items, sym, refl, ap, ◌∙◌, subst, arith}
+use Rattle.std.proofs.Common.{◌≡◌, ℕ, suc, ◌+◌, ◌<◌, Bool, true, false, List, ◌++◌, length, Some, vec_items, sym, refl, ap, ◌∙◌, subst, arith}
 use native.Mathlib.Decide.{dec_lt}
 use Rattle.expression.specs.declared.raw.RawNode.{RawNode}
 use Rattle.register.proofs.OneAnswer.{one_answer}
@@ -12,7 +12,6 @@ use Rattle.script.specs.Denoted.{Holds, postfix, denoted}
 use Rattle.script.specs.Dialects.{Dialect}
 use Rattle.script.specs.Forms.{Written, lodge}
 use Rattle.script.specs.Law.{Accepted, Refused, Refusal as Unread}
-use Rattle.text.specs.Lines.{lines}
 use Rattle.script.specs.Running.{Tables, Calls, Declines, Did, Failed, Responded, silent, answered, refused, Ran, ended, then, Transcript, too_long, ran, OneTranscript}
 use Rattle.script.specs.declared.answer.Answer.{Answer}
 use Rattle.script.specs.declared.answer.Answer.TheVariants.{Lodged}

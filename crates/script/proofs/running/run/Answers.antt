@@ -1,6 +1,5 @@
 use Rattle.std.proofs.Common.{vec_items, sym, ap, ◌∙◌, subst, arith}
 use Rattle.expression.specs.Verdicts.{gives}
-use Rattle.register.specs.Meaning.{tables}
 use Rattle.script.specs.Answers.{refused_text}
 use Rattle.script.specs.Running.{Transcript, too_long, ran}
 use Rattle.script.specs.Dialects.{dialect}
