@@ -26,6 +26,6 @@ impl Kind for Bytes {
     }
 
     fn letter(code: u16) -> Option<u8> {
-        if code < 256 { Some(code as u8) } else { None }
+        u8::try_from(code).ok()
     }
 }

@@ -1,44 +1,54 @@
 //! Marks as letters, coded 4 × record number + class of stamp.
 ghost use Rattle.std.specs.Prelude.{◌≡◌};
-ghost use Rattle.std.proofs.Math.Decide.{dec_lt};
-ghost use Rattle.alphabet.specs.Codes.{in_range, mark_code, mark_letter, mark_named, stamp_classed};
+ghost use Rattle.alphabet.specs.Codes.{class_of, mark_code, mark_letter, mark_named, mark_stamped, stamp_read};
 ghost use Rattle.alphabet.specs.MarkLaws;
 
 use crate::kind::Kind;
-use crate::mark::{Mark, Stamp};
+use crate::mark::{Mark, Stamp, UnknownStamp};
 
 #[derive(Clone, Copy)]
 pub struct Marks;
 
-impl Stamp {
-    /// The stamp class with this number, or none.
-    pub fn from_class(class: u16) -> Option<Stamp>
-        ensures { result ≡ stamp_classed class }
-    {
+impl TryFrom<u16> for Stamp {
+    type Error = UnknownStamp;
+
+    ghost try_from_gives = { λ c r. r ≡ stamp_read c };
+
+    /// The stamp class with this number.
+    fn try_from(class: u16) -> Result<Stamp, UnknownStamp> {
         match class {
-            0 => Some(Stamp::Absent),
-            1 => Some(Stamp::WithinDay),
-            2 => Some(Stamp::Midnight),
-            _ => None,
+            0 => Ok(Stamp::Absent),
+            1 => Ok(Stamp::WithinDay),
+            2 => Ok(Stamp::Midnight),
+            _ => Err(UnknownStamp { class }),
         }
     }
 }
 
+impl From<Stamp> for u16 {
+    ghost from_gives = { λ s c. c ≡ class_of s };
+
+    /// The number of a stamp class.
+    fn from(stamp: Stamp) -> u16 {
+        stamp as u16
+    }
+}
+
 impl Mark {
-    /// The mark with a record number and a stamp class, or none where either is out of range.
+    /// The mark with a record number and the stamp class of a number, or none where either is out of range.
     pub fn new(number: u16, class: u16) -> Option<Mark>
         ensures { result ≡ mark_named number class }
     {
-        Mark::in_range(number, Stamp::from_class(class))
+        Mark::stamped(number, Stamp::try_from(class).ok()?)
     }
 
-    fn in_range(number: u16, stamp: Option<Stamp>) -> Option<Mark>
-        ensures { result ≡ in_range number (dec_lt number 1000) stamp }
+    /// The mark with a record number and a stamp, or none where the number is out of range.
+    pub fn stamped(number: u16, stamp: Stamp) -> Option<Mark>
+        ensures { result ≡ mark_stamped number stamp }
     {
         if number >= 1000 {
             return None;
         }
-        let stamp = stamp?;
         Some(Mark { number, stamp })
     }
 }
@@ -57,7 +67,7 @@ impl Kind for Marks {
     ghost only = { λ c l e. (tt, MarkLaws.only c l e) };
 
     fn code(l: Mark) -> u16 {
-        4 * l.number + l.stamp as u16
+        4 * l.number + u16::from(l.stamp)
     }
 
     fn letter(code: u16) -> Option<Mark> {

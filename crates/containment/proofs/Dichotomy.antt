@@ -1,5 +1,6 @@
 -- Either there are rows that keep the rules, or a word that refutes; never both.
 use Rattle.std.proofs.Common.{◌≡◌, ℕ, zero, suc, ◌+◌, ◌≤◌, Bool, true, false, cond, ◌&&◌, eqb, List, [], ◌∷◌, ◌++◌, map, sym, refl, subst, inl, inr, arith, eq-eqb, eqb-true}
+use Rattle.std.proofs.lemmas.Bool.{and_parts, and_from, and_cases, cases_Bool, both_ways}
 use Prim.{tt}
 use borrow.Author.Tests.{clash}
 use Rattle.expression.specs.Expressions.{Expr}
@@ -10,8 +11,8 @@ use Rattle.containment.specs.Rules.{Ends, Serves, GoesOn, Keeps}
 use Rattle.containment.specs.Refuting.{Refutes}
 use Rattle.containment.specs.Theorems.{RowsOrWord}
 use Rattle.containment.specs.Checking.{if_then, stepped, ends_too}
-use Rattle.containment.proofs.Booleans.{decide, both, fst, snd, neither, not_both, apply, applied, broken}
-use Rattle.containment.proofs.Lists.{any, all, from, from_in, from_range, filter, count, any_some, any_in, all_each, each_all, not_all, filter_in, filter_was, shrinks, in_left, in_right, of_append, in_map, of_map}
+use Rattle.containment.proofs.Booleans.{apply, applied, broken}
+use Rattle.containment.proofs.Lists.{any, list_all, range_with_len, from_in, from_range, filter, count_by, any_some, any_in, all_each, each_all, not_all, filter_in, filter_was, shrinks, in_left, in_right, of_append, in_map, of_map}
 use Rattle.containment.proofs.Sound.{sound}
 
 -- The sublists of a list.
@@ -35,15 +36,17 @@ rises_less : (least most : ℕ) (l : List ℕ) → Rises (suc least) most l → 
 rises_less least most [] h = tt
 rises_less least most (q ∷ l) h = (omega arith, h.1, h.2)
 
-subs_rise : (n i k : ℕ) → i + n ≤ suc k → (s : List ℕ) → Among s (subs (from i n)) → Rises i k s
+subs_rise : (n i k : ℕ) → i + n ≤ suc k → (s : List ℕ) → Among s (subs (range_with_len i n)) → Rises i k s
 subs_rise zero i k h s (inl e) = subst (λ (v : List ℕ). Rises i k v) (sym e) tt
 subs_rise zero i k h s (inr m) = absurd m
 subs_rise (suc n) i k h s m =
-    elim (of_append (map (λ s. i ∷ s) (subs (from (suc i) n))) (subs (from (suc i) n)) s m) [
+    let one : i + 1 ≡ suc i = omega arith in
+    let next = λ (t : List ℕ) (u : Among t (subs (range_with_len (i + 1) n))). subst (λ v. Rises v k t) one (subs_rise n (i + 1) k (omega arith) t u) in
+    elim (of_append (map (λ s. i ∷ s) (subs (range_with_len (i + 1) n))) (subs (range_with_len (i + 1) n)) s m) [
       | inl j ↦
-          let (t, u, e) = of_map (λ s. i ∷ s) (subs (from (suc i) n)) s j in
-          subst (λ (v : List ℕ). Rises i k v) (sym e) (omega arith, omega arith, subs_rise n (suc i) k (omega arith) t u)
-      | inr j ↦ rises_less i k s (subs_rise n (suc i) k (omega arith) s j)
+          let (t, u, e) = of_map (λ s. i ∷ s) (subs (range_with_len (i + 1) n)) s j in
+          subst (λ (v : List ℕ). Rises i k v) (sym e) (omega arith, omega arith, next t u)
+      | inr j ↦ rises_less i k s (next s j)
     ]
 
 -- Every row of a place and a set.
@@ -68,7 +71,7 @@ of_grid (z ∷ ps) sets r m =
     ]
 
 abbrev places : Expr → List ℕ
-places e = from 0 (suc (letter_count e))
+places e = range_with_len 0 (suc (letter_count e))
 
 in_places : (e : Expr) (p q : ℕ) → follows e p q ≡ true → Among q (places e)
 in_places e p q h = let (l, m) = automaton.within e p q h in from_in (suc (letter_count e)) 0 q (omega arith) (omega arith)
@@ -87,20 +90,20 @@ module _ (a b : Expr) where
   -- No word shorter than n shows that the row's place finishes more than its set does.
   abbrev alive : ℕ → Row → Bool
   alive zero r = true
-  alive (suc n) r = ends_too a b r && all (goes (alive n) r) (places a)
+  alive (suc n) r = ends_too a b r && list_all (goes (alive n) r) (places a)
 
   falls : (n : ℕ) (r : Row) → alive (suc n) r ≡ true → alive n r ≡ true
   falls zero r t = refl
   falls (suc n) r t =
-      both (ends_too a b r) (all (goes (alive n) r) (places a))
-      (fst (ends_too a b r) (all (goes (alive (suc n)) r) (places a)) t)
+      and_from (ends_too a b r) (list_all (goes (alive n) r) (places a))
+      (and_parts (ends_too a b r) (list_all (goes (alive (suc n)) r) (places a)) t).0
       (
       each_all (goes (alive n) r) (places a) λ f m.
       applied (follows a r.place f) (alive n (next r f)) λ fol.
       falls n (next r f)
       (
       apply (follows a r.place f) (alive (suc n) (next r f))
-      (all_each (goes (alive (suc n)) r) (places a) (snd (ends_too a b r) (all (goes (alive (suc n)) r) (places a)) t) f m)
+      (all_each (goes (alive (suc n)) r) (places a) (and_parts (ends_too a b r) (list_all (goes (alive (suc n)) r) (places a)) t).1 f m)
       fol
       )
       )
@@ -109,13 +112,13 @@ module _ (a b : Expr) where
   in_post : (c : ℕ) (s : List ℕ) (p q : ℕ) → Among p s → follows b p q ≡ true → code b q ≡ c → Among q (post b c s)
   in_post c s p q m fol e =
       filter_in (stepped b c s) (places b) q (in_places b p q fol)
-      (both (eqb (code b q) c) (any (λ p. follows b p q) s) (eq-eqb (code b q) c e) (any_in (λ p. follows b p q) s p m fol))
+      (and_from (eqb (code b q) c) (any (λ p. follows b p q) s) (eq-eqb (code b q) c e) (any_in (λ p. follows b p q) s p m fol))
 
   post_serves : (r : Row) (f : ℕ) → Serves a b r f (next r f)
   post_serves r f = record {
     place = refl;
-    coded = λ q m. eqb-true (code b q) (code a f) (fst (eqb (code b q) (code a f)) (any (λ p. follows b p q) r.set) (was q m));
-    reached = λ q m. any_some (λ p. follows b p q) r.set (snd (eqb (code b q) (code a f)) (any (λ p. follows b p q) r.set) (was q m));
+    coded = λ q m. eqb-true (code b q) (code a f) (and_parts (eqb (code b q) (code a f)) (any (λ p. follows b p q) r.set) (was q m)).0;
+    reached = λ q m. any_some (λ p. follows b p q) r.set (and_parts (eqb (code b q) (code a f)) (any (λ p. follows b p q) r.set) (was q m)).1;
   }
     where
       was : (q : ℕ) → Among q (post b (code a f) r.set) → stepped b (code a f) r.set q ≡ true
@@ -128,10 +131,10 @@ module _ (a b : Expr) where
       (w : List ℕ) × (finishes a w r.place ≡ true) × ((s : ℕ) → Among s r.set → finishes b w s ≡ true → ⊥)
   word zero r t = absurd (clash (sym t))
   word (suc n) r t =
-      elim (neither (ends_too a b r) (all (goes (alive n) r) (places a)) t) [
+      elim (and_cases (ends_too a b r) (list_all (goes (alive n) r) (places a)) t) [
         | inl e ↦
             let (ea, nb) = broken (may_end a r.place) (any (may_end b) r.set) e in
-            ([], ea, λ s m fin. not_both (any (may_end b) r.set) (any_in (may_end b) r.set s m fin) nb)
+            ([], ea, λ s m fin. both_ways (any (may_end b) r.set) nb (any_in (may_end b) r.set s m fin))
         | inr g ↦
             let (f, m, x) = not_all (goes (alive n) r) (places a) g in
             let (fol, dead) = broken (follows a r.place f) (alive n (next r f)) x in
@@ -150,7 +153,7 @@ module _ (a b : Expr) where
   abbrev Stable : ℕ → Type 0
   Stable n = (r : Row) → Among r every → alive n r ≡ true → alive (suc n) r ≡ true
 
-  settles : (m n : ℕ) → count (alive n) every ≤ m → (n' : ℕ) × Stable n'
+  settles : (m n : ℕ) → count_by (alive n) every ≤ m → (n' : ℕ) × Stable n'
   settles zero n h = elim (shrinks (alive n) (alive (suc n)) (falls n) every).1 [ inl s ↦ (n, s) | inr lt ↦ absurd (omega arith) ]
   settles (suc m) n h =
       elim (shrinks (alive n) (alive (suc n)) (falls n) every).1 [ inl s ↦ (n, s) | inr lt ↦ settles m (suc n) (omega arith) ]
@@ -162,8 +165,8 @@ module _ (a b : Expr) where
   first_in =
       in_grid (places a) (subs (places b)) 0 (0 ∷ []) (inl refl)
       (
-      in_left (map (λ s. 0 ∷ s) (subs (from 1 (letter_count b)))) (subs (from 1 (letter_count b))) (0 ∷ [])
-      (in_map (λ s. 0 ∷ s) (subs (from 1 (letter_count b))) [] (subs_nil (from 1 (letter_count b))))
+      in_left (map (λ s. 0 ∷ s) (subs (range_with_len 1 (letter_count b)))) (subs (range_with_len 1 (letter_count b))) (0 ∷ [])
+      (in_map (λ s. 0 ∷ s) (subs (range_with_len 1 (letter_count b))) [] (subs_nil (range_with_len 1 (letter_count b))))
       )
 
   ranged : (r : Row) → Among r every → Ranged (letter_count a) (letter_count b) r
@@ -189,7 +192,7 @@ module _ (a b : Expr) where
               (in_grid (places a) (subs (places b)) f (post b (code a f) r.set) m (subs_filter (stepped b (code a f) r.set) (places b)))
               (
               apply (follows a r.place f) (alive n (next r f))
-              (all_each (goes (alive n) r) (places a) (snd (ends_too a b r) (all (goes (alive n) r) (places a)) t) f m)
+              (all_each (goes (alive n) r) (places a) (and_parts (ends_too a b r) (list_all (goes (alive n) r) (places a)) t).1 f m)
               fol
               )
               ),
@@ -199,7 +202,7 @@ module _ (a b : Expr) where
     ends : (r : Row) → alive (suc n) r ≡ true → Ends a b r
     ends r t e =
         any_some (may_end b) r.set
-        (apply (may_end a r.place) (any (may_end b) r.set) (fst (ends_too a b r) (all (goes (alive n) r) (places a)) t) e)
+        (apply (may_end a r.place) (any (may_end b) r.set) (and_parts (ends_too a b r) (list_all (goes (alive n) r) (places a)) t).0 e)
 
     kept : Keeps a b rows
     kept = record {
@@ -217,8 +220,8 @@ refuting a b w p q = ((finishing.start a w).0 p, λ x. q ((finishing.start b w).
 pub dichotomy : RowsOrWord
 dichotomy a b = record {
   either =
-      let (n, st) = settles a b (count (alive a b 0) (every a b)) 0 (omega arith) in
-      elim (decide (alive a b n (first a b))) [
+      let (n, st) = settles a b (count_by (alive a b 0) (every a b)) 0 (omega arith) in
+      elim (cases_Bool (alive a b n (first a b))) [
         | inl t ↦ inl (rows a b n st t, in_range a b n st t, kept a b n st t)
         | inr t ↦ let (w, fin, none) = word a b n (first a b) t in inr (w, refuting a b w fin (none 0 (inl refl)))
       ];

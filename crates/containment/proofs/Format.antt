@@ -7,7 +7,7 @@ use Rattle.containment.specs.declared.want.Want.{Want}
 use Rattle.containment.specs.declared.want.Want.TheVariants.{Place, Size, Member}
 use Rattle.containment.specs.Rows.{Row, row, Rises, Ranged, AllRanged}
 use Rattle.containment.specs.Format.{flat, read_rows, rows_of, most_numbers, Formed, members, fits, after, after_all, ill_from, ill_in, ill, FirstIll, Format}
-use Rattle.containment.proofs.Booleans.{both, fst, snd}
+use Rattle.std.proofs.lemmas.Bool.{and_parts, and_from}
 
 -- The rows that are read off the numbers of rows are those rows.
 read_flat : (rows : List Row) (n : ℕ) → length (flat rows) ≤ n → read_rows n (flat rows) ≡ rows
@@ -62,7 +62,7 @@ module _ (m k : ℕ) where
         rows,
         ap suc len,
         ap (λ v. n ∷ v) e,
-        (leb-true least n (fst (leb least n) (leb n k) t), leb-true n k (snd (leb least n) (leb n k) t), up),
+        (leb-true least n (and_parts (leb least n) (leb n k) t).0, leb-true n k (and_parts (leb least n) (leb n k) t).1, up),
         fine,
       )
 
@@ -81,7 +81,7 @@ module _ (m k : ℕ) where
       (i : ℕ) → ill_from m k (members (length s) least) i (s ++ ns) ≡ None
   write_set [] ns least up rest i = rest i
   write_set (q ∷ s) ns least up rest i =
-      passes _ _ i (both (leb least q) (leb q k) (le-leb least q up.0) (le-leb q k up.1)) (write_set s ns (suc q) up.2 rest (suc i))
+      passes _ _ i (and_from (leb least q) (leb q k) (le-leb least q up.0) (le-leb q k up.1)) (write_set s ns (suc q) up.2 rest (suc i))
 
   size_most : (s : List ℕ) (least : ℕ) → least ≤ k + 1 → Rises least k s → length s + least ≤ k + 1
   size_most [] least h up = omega arith

@@ -1,5 +1,6 @@
 -- The tests pass exactly where the rules are kept, so the verdict that they compute is the one verdict.
-use Rattle.std.proofs.Common.{◌≡◌, ℕ, zero, suc, ◌+◌, ◌<◌, ◌≤◌, Bool, true, false, cond, not, ◌||◌, eqb, List, [], ◌∷◌, length, drop, Some, None, Ok, Err, Option, Result, sym, refl, ap, ◌∙◌, subst, inl, inr, arith, drop_of_length-le, drop-cons, eq-eqb, eqb-true}
+use Rattle.std.proofs.Common.{◌≡◌, ℕ, zero, suc, ◌+◌, ◌<◌, ◌≤◌, Bool, true, false, cond, not, eqb, List, [], ◌∷◌, length, drop, find, Some, None, Ok, Err, Option, Result, sym, refl, ap, ◌∙◌, subst, inl, inr, arith, drop_of_length-le, drop-cons, eq-eqb, eqb-true}
+use Rattle.std.proofs.lemmas.Bool.{and_parts, and_from, cases_Bool, false_from_ne_true, both_ways}
 use native.Mathlib.Decide.{dec_lt, ℕ_discrete}
 use borrow.Author.Tests.{clash}
 use Rattle.expression.specs.Expressions.{Expr}
@@ -15,9 +16,9 @@ use Rattle.containment.specs.Rules.{Begins, Ends, Serves, Served, GoesOn, Keeps}
 use Rattle.containment.specs.Verdicts.{KeptBelow, FirstUnserved, Breaks, Judged}
 use Rattle.containment.specs.Refuting.{WordJudged}
 use Rattle.containment.specs.Theorems.{OneVerdicts}
-use Rattle.containment.specs.Checking.{first, lowest, only_zero, begins, ends_too, stepped, serves, serving, is_none, unserved, at_follower, row_fault, or_else, rows_fault, rules_fault, ill_fault, list_fault, verdict}
-use Rattle.containment.proofs.Booleans.{decide, both, fst, snd, not_both, failed, apply, applied}
-use Rattle.containment.proofs.Lists.{any, all, from, any_some, any_in, all_each, each_all, nth_in, in_nth}
+use Rattle.containment.specs.Checking.{only_zero, begins, ends_too, stepped, serves, served, unserved, at_follower, row_fault, or_else, rows_fault, rules_fault, ill_fault, list_fault, verdict}
+use Rattle.containment.proofs.Booleans.{apply, applied}
+use Rattle.containment.proofs.Lists.{any, list_all, range_with_len, any_some, any_in, all_each, each_all, nth_in, in_nth}
 use Rattle.containment.proofs.Format.{format}
 
 -- Rule 1.
@@ -29,39 +30,30 @@ zero_is (q ∷ p ∷ l) t = absurd (clash t)
 begins_is : (rows : List Row) → begins rows ≡ true → Begins rows
 begins_is [] t = absurd (clash t)
 begins_is (r ∷ rows) t =
-    (eqb-true r.place 0 (fst (eqb r.place 0) (only_zero r.set) t), zero_is r.set (snd (eqb r.place 0) (only_zero r.set) t))
+    (eqb-true r.place 0 (and_parts (eqb r.place 0) (only_zero r.set) t).0, zero_is r.set (and_parts (eqb r.place 0) (only_zero r.set) t).1)
 
 begins_to : (rows : List Row) → Begins rows → begins rows ≡ true
 begins_to [] h = absurd h
-begins_to (r ∷ rows) h = both (eqb r.place 0) (only_zero r.set) (eq-eqb r.place 0 h.0) (ap only_zero h.1)
-
--- The first that passes.
-none_any : {A : Type 0} (f : A → Bool) (i : ℕ) (l : List A) → is_none (first f i l) ≡ not (any f l)
-none_any f i [] = refl
-none_any f i (x ∷ l) = go (f x) (none_any f (suc i) l)
-  where
-    go : (c : Bool) → is_none (first f (suc i) l) ≡ not (any f l) → is_none (cond c (Some i) (first f (suc i) l)) ≡ not (c || any f l)
-    go true ih = refl
-    go false ih = ih
+begins_to (r ∷ rows) h = and_from (eqb r.place 0) (only_zero r.set) (eq-eqb r.place 0 h.0) (ap only_zero h.1)
 
 -- The lowest number that passes.
 module _ (g : ℕ → Bool) where
-  pub lowest_stop : (i n : ℕ) → g i ≡ true → lowest g (from i (suc n)) ≡ Some i
-  lowest_stop i n t = ap (λ c. cond c (Some i) (lowest g (from (suc i) n))) t
+  find_stop : (i n : ℕ) → g i ≡ true → find g (range_with_len i (suc n)) ≡ Some i
+  find_stop i n t = ap (λ c. cond c (Some i) (find g (range_with_len (i + 1) n))) t
 
-  pub lowest_turn : (i n : ℕ) → g i ≡ false → lowest g (from i (suc n)) ≡ lowest g (from (suc i) n)
-  lowest_turn i n t = ap (λ c. cond c (Some i) (lowest g (from (suc i) n))) t
+  find_turn : (i n : ℕ) → g i ≡ false → find g (range_with_len i (suc n)) ≡ find g (range_with_len (i + 1) n)
+  find_turn i n t = ap (λ c. cond c (Some i) (find g (range_with_len (i + 1) n))) t
 
-  lowest_none : (n i : ℕ) → ((j : ℕ) → i ≤ j → g j ≡ false) → lowest g (from i n) ≡ None
-  lowest_none zero i h = refl
-  lowest_none (suc n) i h = lowest_turn i n (h i (omega arith)) ∙ lowest_none n (suc i) (λ j l. h j (omega arith))
+  find_none : (n i : ℕ) → ((j : ℕ) → i ≤ j → g j ≡ false) → find g (range_with_len i n) ≡ None
+  find_none zero i h = refl
+  find_none (suc n) i h = find_turn i n (h i (omega arith)) ∙ find_none n (i + 1) (λ j l. h j (omega arith))
 
-  lowest_some : (n i f : ℕ) → i ≤ f → f < i + n → g f ≡ true → ((j : ℕ) → j < f → g j ≡ false) → lowest g (from i n) ≡ Some f
-  lowest_some zero i f l h t below = absurd (omega arith)
-  lowest_some (suc n) i f l h t below =
+  find_some : (n i f : ℕ) → i ≤ f → f < i + n → g f ≡ true → ((j : ℕ) → j < f → g j ≡ false) → find g (range_with_len i n) ≡ Some f
+  find_some zero i f l h t below = absurd (omega arith)
+  find_some (suc n) i f l h t below =
       elim (ℕ_discrete i f) [
-        | yes e ↦ lowest_stop i n (ap g e ∙ t) ∙ ap {B = Option ℕ} Some e
-        | no ne ↦ lowest_turn i n (below i (omega arith)) ∙ lowest_some n (suc i) f (omega arith) (omega arith) t below
+        | yes e ↦ find_stop i n (ap g e ∙ t) ∙ ap {B = Option ℕ} Some e
+        | no ne ↦ find_turn i n (below i (omega arith)) ∙ find_some n (i + 1) f (omega arith) (omega arith) t below
       ]
 
   -- What the lowest of n numbers from i on tells.
@@ -69,17 +61,17 @@ module _ (g : ℕ → Bool) where
   Lowest i n None = (j : ℕ) → i ≤ j → j < i + n → g j ≡ false
   Lowest i n (Some f) = (g f ≡ true) × ((j : ℕ) → i ≤ j → j < f → g j ≡ false)
 
-  lowest_past : (i n : ℕ) (o : Option ℕ) → g i ≡ false → Lowest (suc i) n o → Lowest i (suc n) o
+  lowest_past : (i n : ℕ) (o : Option ℕ) → g i ≡ false → Lowest (i + 1) n o → Lowest i (suc n) o
   lowest_past i n None t h = λ j l b. elim (ℕ_discrete i j) [ yes e ↦ ap g (sym e) ∙ t | no ne ↦ h j (omega arith) (omega arith) ]
   lowest_past i n (Some f) t h = (h.0, λ j l b. elim (ℕ_discrete i j) [ yes e ↦ ap g (sym e) ∙ t | no ne ↦ h.1 j (omega arith) b ])
 
-  lowest_is : (n i : ℕ) → Lowest i n (lowest g (from i n))
+  lowest_is : (n i : ℕ) → Lowest i n (find g (range_with_len i n))
   lowest_is zero i = λ j l b. absurd (omega arith)
-  lowest_is (suc n) i = go (g i) refl (lowest_is n (suc i))
+  lowest_is (suc n) i = go (g i) refl (lowest_is n (i + 1))
     where
-      go : (c : Bool) → g i ≡ c → Lowest (suc i) n (lowest g (from (suc i) n)) → Lowest i (suc n) (cond c (Some i) (lowest g (from (suc i) n)))
+      go : (c : Bool) → g i ≡ c → Lowest (i + 1) n (find g (range_with_len (i + 1) n)) → Lowest i (suc n) (cond c (Some i) (find g (range_with_len (i + 1) n)))
       go true t ih = (t, λ j l b. absurd (omega arith))
-      go false t ih = lowest_past i n (lowest g (from (suc i) n)) t ih
+      go false t ih = lowest_past i n (find g (range_with_len (i + 1) n)) t ih
 
 module _ (a b : Expr) where
   -- Rule 2.
@@ -97,51 +89,50 @@ module _ (a b : Expr) where
 
     pub serves_is : (o : Row) → serves a b r f o ≡ true → Serves a b r f o
     serves_is o t = record {
-      place = eqb-true o.place f (fst (eqb o.place f) (all good o.set) t);
-      coded = λ q m. eqb-true (code b q) (code a f) (fst (eqb (code b q) (code a f)) (any (λ p. follows b p q) r.set) (each q m));
-      reached = λ q m. any_some (λ p. follows b p q) r.set (snd (eqb (code b q) (code a f)) (any (λ p. follows b p q) r.set) (each q m));
+      place = eqb-true o.place f (and_parts (eqb o.place f) (list_all good o.set) t).0;
+      coded = λ q m. eqb-true (code b q) (code a f) (and_parts (eqb (code b q) (code a f)) (any (λ p. follows b p q) r.set) (each q m)).0;
+      reached = λ q m. any_some (λ p. follows b p q) r.set (and_parts (eqb (code b q) (code a f)) (any (λ p. follows b p q) r.set) (each q m)).1;
     }
       where
         each : (q : ℕ) → Among q o.set → good q ≡ true
-        each = all_each good o.set (snd (eqb o.place f) (all good o.set) t)
+        each = all_each good o.set (and_parts (eqb o.place f) (list_all good o.set) t).1
 
     pub serves_to : (o : Row) → Serves a b r f o → serves a b r f o ≡ true
     serves_to o s =
-        both (eqb o.place f) (all good o.set) (eq-eqb o.place f s.place)
+        and_from (eqb o.place f) (list_all good o.set) (eq-eqb o.place f s.place)
         (
         each_all good o.set λ q m.
         let (p, mp, fp) = s.reached q m in
-        both (eqb (code b q) (code a f)) (any (λ p. follows b p q) r.set) (eq-eqb (code b q) (code a f) (s.coded q m))
+        and_from (eqb (code b q) (code a f)) (any (λ p. follows b p q) r.set) (eq-eqb (code b q) (code a f) (s.coded q m))
         (any_in (λ p. follows b p q) r.set p mp fp)
         )
 
   module _ (rows : List Row) where
     module _ (r : Row) (f : ℕ) where
-      served_is : any (serves a b r f) rows ≡ true → Served a b rows r f
+      served_is : served a b rows r f ≡ true → Served a b rows r f
       served_is t = let (o, m, s) = any_some (serves a b r f) rows t in (o, m, serves_is r f o s)
 
-      served_to : Served a b rows r f → any (serves a b r f) rows ≡ true
+      served_to : Served a b rows r f → served a b rows r f ≡ true
       served_to (o, m, s) = any_in (serves a b r f) rows o m (serves_to r f o s)
 
       un_is : unserved a b rows r f ≡ true → (follows a r.place f ≡ true) × (Served a b rows r f → ⊥)
       un_is t =
-          let n : not (any (serves a b r f) rows) ≡ true = sym (none_any (serves a b r f) 0 rows) ∙ snd (follows a r.place f) (is_none (serving a b rows r f)) t in
-          (fst (follows a r.place f) (is_none (serving a b rows r f)) t, λ s. clash (ap not (sym (served_to s)) ∙ n))
+          let n = (and_parts (follows a r.place f) (not (served a b rows r f)) t).1 in
+          ((and_parts (follows a r.place f) (not (served a b rows r f)) t).0, λ s. clash (ap not (sym (served_to s)) ∙ n))
 
       un_to : follows a r.place f ≡ true → (Served a b rows r f → ⊥) → unserved a b rows r f ≡ true
       un_to fol no_one =
-          both (follows a r.place f) (is_none (serving a b rows r f)) fol
-          (none_any (serves a b r f) 0 rows ∙ ap not (failed (any (serves a b r f) rows) (λ t. no_one (served_is t))))
+          and_from (follows a r.place f) (not (served a b rows r f)) fol (ap not (false_from_ne_true (served a b rows r f) (λ t. no_one (served_is t))))
 
       un_not : unserved a b rows r f ≡ false → follows a r.place f ≡ true → Served a b rows r f
       un_not t fol =
-          elim (decide (any (serves a b r f) rows)) [
+          elim (cases_Bool (served a b rows r f)) [
             | inl y ↦ served_is y
-            | inr n ↦ absurd (not_both (unserved a b rows r f) (both (follows a r.place f) (is_none (serving a b rows r f)) fol (none_any (serves a b r f) 0 rows ∙ ap not n)) t)
+            | inr n ↦ absurd (both_ways (unserved a b rows r f) t (and_from (follows a r.place f) (not (served a b rows r f)) fol (ap not n)))
           ]
 
       not_un : (follows a r.place f ≡ true → Served a b rows r f) → unserved a b rows r f ≡ false
-      not_un h = failed (unserved a b rows r f) (λ t. let (fol, n) = un_is t in n (h fol))
+      not_un h = false_from_ne_true (unserved a b rows r f) (λ t. let (fol, n) = un_is t in n (h fol))
 
     module _ (r : Row) where
       abbrev un : ℕ → Bool
@@ -161,11 +152,11 @@ module _ (a b : Expr) where
           let (fol, no_one) = un_is r f h.0 in
           record { follower = fol; unserved = no_one; below = λ g l fg. un_not r g (h.1 g (from_one g fg).0 l) fg }
 
-      unserved_to : (o : Option ℕ) → Unserved o → lowest un (from 1 (letter_count a)) ≡ o
-      unserved_to None h = lowest_none un (letter_count a) 1 (λ j l. not_un r j (h j))
+      unserved_to : (o : Option ℕ) → Unserved o → find un (range_with_len 1 (letter_count a)) ≡ o
+      unserved_to None h = find_none un (letter_count a) 1 (λ j l. not_un r j (h j))
       unserved_to (Some f) h =
           let (x, y) = from_one f h.follower in
-          lowest_some un (letter_count a) 1 f x y (un_to r f h.follower h.unserved) (λ j l. not_un r j (h.below j l))
+          find_some un (letter_count a) 1 f x y (un_to r f h.follower h.unserved) (λ j l. not_un r j (h.below j l))
 
     -- What the fault of row n tells of it.
     abbrev RowTells : ℕ → Row → Option RowsFault → Type 0
@@ -176,23 +167,23 @@ module _ (a b : Expr) where
     RowTells n r (Some (Follower i f)) = (i ≡ n) × Ends a b r × FirstUnserved a b rows r f
 
     row_tells : (n : ℕ) (r : Row) → RowTells n r (row_fault a b rows n r)
-    row_tells n r = go (ends_too a b r) refl (lowest (un r) (from 1 (letter_count a))) (unserved_is r _ (lowest_is (un r) (letter_count a) 1))
+    row_tells n r = go (ends_too a b r) refl (find (un r) (range_with_len 1 (letter_count a))) (unserved_is r _ (lowest_is (un r) (letter_count a) 1))
       where
         go : (c : Bool) → ends_too a b r ≡ c → (o : Option ℕ) → Unserved r o → RowTells n r (cond c (at_follower n o) (Some (End n)))
         go true t None h = (ends_is r t, h)
         go true t (Some f) h = (refl, ends_is r t, h)
-        go false t o h = (refl, λ e. not_both (ends_too a b r) (ends_to r e) t)
+        go false t o h = (refl, λ e. both_ways (ends_too a b r) t (ends_to r e))
 
     row_told : (n : ℕ) (r : Row) (o : Option RowsFault) → RowTells n r o → row_fault a b rows n r ≡ o
     row_told n r None (e, g) =
-        ap (λ c. cond c (at_follower n (lowest (un r) (from 1 (letter_count a)))) (Some (End n))) (ends_to r e) ∙ ap (at_follower n) (unserved_to r None g)
+        ap (λ c. cond c (at_follower n (find (un r) (range_with_len 1 (letter_count a)))) (Some (End n))) (ends_to r e) ∙ ap (at_follower n) (unserved_to r None g)
     row_told n r (Some (IllFormed i)) h = absurd h
     row_told n r (Some Start) h = absurd h
     row_told n r (Some (End i)) (s, h) =
-        ap (λ c. cond c (at_follower n (lowest (un r) (from 1 (letter_count a)))) (Some (End n))) (failed (ends_too a b r) (λ t. h (ends_is r t)))
+        ap (λ c. cond c (at_follower n (find (un r) (range_with_len 1 (letter_count a)))) (Some (End n))) (false_from_ne_true (ends_too a b r) (λ t. h (ends_is r t)))
         ∙ ap (λ v. Some (End v)) (sym s)
     row_told n r (Some (Follower i f)) (s, e, g) =
-        ap (λ c. cond c (at_follower n (lowest (un r) (from 1 (letter_count a)))) (Some (End n))) (ends_to r e) ∙ ap (at_follower n) (unserved_to r (Some f) g)
+        ap (λ c. cond c (at_follower n (find (un r) (range_with_len 1 (letter_count a)))) (Some (End n))) (ends_to r e) ∙ ap (at_follower n) (unserved_to r (Some f) g)
         ∙ ap (λ v. Some (Follower v f)) (sym s)
 
     -- The faults of the rows from number n on.
@@ -247,7 +238,7 @@ module _ (a b : Expr) where
       where
         go : (c : Bool) → begins rows ≡ c → Told (cond c (rest 0) (Some Start))
         go true t = told_from (begins_is rows t) (length rows) 0 (omega arith) (λ i l. absurd (omega arith))
-        go false t = λ h. not_both (begins rows) (begins_to rows h) t
+        go false t = λ h. both_ways (begins rows) t (begins_to rows h)
 
     -- The fault is the only one that the rules tell.
     skip : (n : ℕ) → n ≤ length rows → ((i : ℕ) → i < n → row_fault a b rows i (row_at rows i) ≡ None) → rest 0 ≡ rest n
@@ -275,7 +266,7 @@ module _ (a b : Expr) where
         ∙ rest_end (length rows) (omega arith)
         )
     rules_is (Some (IllFormed i)) h = absurd h
-    rules_is (Some Start) h = ap (λ c. cond c (rest 0) (Some Start)) (failed (begins rows) (λ t. h (begins_is rows t)))
+    rules_is (Some Start) h = ap (λ c. cond c (rest 0) (Some Start)) (false_from_ne_true (begins rows) (λ t. h (begins_is rows t)))
     rules_is (Some (End n)) (k, e) = rules_at n (End n) k (refl, e)
     rules_is (Some (Follower n f)) (k, e, u) = rules_at n (Follower n f) k (refl, e, u)
 

@@ -8,9 +8,9 @@ mod WorkedRows
 mod AllWorked
 mod Stepping
 mod Wiring
+mod Filling
 mod Passing
 mod Indexing
-mod Serving
 mod Marking
 mod Tabled
 mod Answering

@@ -1,26 +1,27 @@
 -- Members of lists, and tests over them.
 use Rattle.std.proofs.Common.{◌≡◌, ℕ, zero, suc, ◌+◌, ◌<◌, ◌≤◌, Bool, true, false, cond, eqb, ◌⊎◌, List, [], ◌∷◌, ◌++◌, map, length, get_or, sym, refl, ap, ◌∙◌, inl, inr, arith, eqb-true}
+use Rattle.std.proofs.lemmas.Bool.{and_parts, and_from, and_cases, or_cases, or_left, or_right}
 use native.Mathlib.Decide.{ℕ_discrete}
+use Rattle.std.proofs.lemmas.List.Sums.{sum_by-cons}
 use borrow.Author.Tests.{clash}
 pub use Rattle.expression.specs.Members.{any}
 use Rattle.containment.specs.Rows.{Among}
-pub use Rattle.containment.specs.Checking.{all, from}
-use Rattle.containment.proofs.Booleans.{both, fst, snd, neither, either, left, right}
+pub use Rattle.std.specs.List.{list_all, range_with_len, filter, count_by}
 
 -- The numbers from i on.
-pub from_in : (n i q : ℕ) → i ≤ q → q < i + n → Among q (from i n)
+pub from_in : (n i q : ℕ) → i ≤ q → q < i + n → Among q (range_with_len i n)
 from_in zero i q h l = absurd (omega arith)
 from_in (suc n) i q h l =
-    elim (ℕ_discrete q i) [ yes e ↦ inl e | no ne ↦ inr (from_in n (suc i) q (omega arith) (omega arith)) ]
+    elim (ℕ_discrete q i) [ yes e ↦ inl e | no ne ↦ inr (from_in n (i + 1) q (omega arith) (omega arith)) ]
 
-pub from_range : (n i : ℕ) (q : ℕ) → Among q (from i n) → (i ≤ q) × (q < i + n)
+pub from_range : (n i : ℕ) (q : ℕ) → Among q (range_with_len i n) → (i ≤ q) × (q < i + n)
 from_range zero i q m = absurd m
 from_range (suc n) i q (inl e) = (omega arith, omega arith)
-from_range (suc n) i q (inr m) = let (l, h) = from_range n (suc i) q m in (omega arith, omega arith)
+from_range (suc n) i q (inr m) = let (l, h) = from_range n (i + 1) q m in (omega arith, omega arith)
 
 pub member_in : (q : ℕ) (l : List ℕ) → any (eqb q) l ≡ true → Among q l
 member_in q [] h = absurd (clash h)
-member_in q (x ∷ l) h = elim (either (eqb q x) (any (eqb q) l) h) [ inl t ↦ inl (eqb-true q x t) | inr t ↦ inr (member_in q l t) ]
+member_in q (x ∷ l) h = elim (or_cases (eqb q x) (any (eqb q) l) h) [ inl t ↦ inl (eqb-true q x t) | inr t ↦ inr (member_in q l t) ]
 
 bits : (x y : Bool) → (y ≡ true → x ≡ true) → (cond y 1 0 ≤ cond x 1 0) × ((x ≡ true → y ≡ true) ⊎ (cond y 1 0 < cond x 1 0))
 bits true true h = (omega arith, inl (λ t. t))
@@ -29,40 +30,32 @@ bits false true h = absurd (clash (h refl))
 bits false false h = (omega arith, inl (λ t. t))
 
 module _ {A : Type 0} where
-  abbrev pub filter : (A → Bool) → List A → List A
-  filter f [] = []
-  filter f (x ∷ l) = cond (f x) (x ∷ filter f l) (filter f l)
-
-  abbrev pub count : (A → Bool) → List A → ℕ
-  count f [] = 0
-  count f (x ∷ l) = cond (f x) 1 0 + count f l
-
   pub any_some : (f : A → Bool) (l : List A) → any f l ≡ true → (x : A) × Among x l × (f x ≡ true)
   any_some f [] h = absurd (clash h)
   any_some f (x ∷ l) h =
-      elim (either (f x) (any f l) h) [
+      elim (or_cases (f x) (any f l) h) [
         | inl t ↦ (x, inl refl, t)
         | inr t ↦ let (y, m, fy) = any_some f l t in (y, inr m, fy)
       ]
 
   pub any_in : (f : A → Bool) (l : List A) (x : A) → Among x l → f x ≡ true → any f l ≡ true
   any_in f [] x m t = absurd m
-  any_in f (y ∷ l) x (inl e) t = left (f y) (any f l) (ap f (sym e) ∙ t)
-  any_in f (y ∷ l) x (inr m) t = right (f y) (any f l) (any_in f l x m t)
+  any_in f (y ∷ l) x (inl e) t = or_left (f y) (any f l) (ap f (sym e) ∙ t)
+  any_in f (y ∷ l) x (inr m) t = or_right (f y) (any f l) (any_in f l x m t)
 
-  pub all_each : (f : A → Bool) (l : List A) → all f l ≡ true → (x : A) → Among x l → f x ≡ true
+  pub all_each : (f : A → Bool) (l : List A) → list_all f l ≡ true → (x : A) → Among x l → f x ≡ true
   all_each f [] h x m = absurd m
-  all_each f (y ∷ l) h x (inl e) = ap f e ∙ fst (f y) (all f l) h
-  all_each f (y ∷ l) h x (inr m) = all_each f l (snd (f y) (all f l) h) x m
+  all_each f (y ∷ l) h x (inl e) = ap f e ∙ (and_parts (f y) (list_all f l) h).0
+  all_each f (y ∷ l) h x (inr m) = all_each f l (and_parts (f y) (list_all f l) h).1 x m
 
-  pub each_all : (f : A → Bool) (l : List A) → ((x : A) → Among x l → f x ≡ true) → all f l ≡ true
+  pub each_all : (f : A → Bool) (l : List A) → ((x : A) → Among x l → f x ≡ true) → list_all f l ≡ true
   each_all f [] h = refl
-  each_all f (y ∷ l) h = both (f y) (all f l) (h y (inl refl)) (each_all f l (λ x m. h x (inr m)))
+  each_all f (y ∷ l) h = and_from (f y) (list_all f l) (h y (inl refl)) (each_all f l (λ x m. h x (inr m)))
 
-  pub not_all : (f : A → Bool) (l : List A) → all f l ≡ false → (x : A) × Among x l × (f x ≡ false)
+  pub not_all : (f : A → Bool) (l : List A) → list_all f l ≡ false → (x : A) × Among x l × (f x ≡ false)
   not_all f [] h = absurd (clash (sym h))
   not_all f (x ∷ l) h =
-      elim (neither (f x) (all f l) h) [
+      elim (and_cases (f x) (list_all f l) h) [
         | inl t ↦ (x, inl refl, t)
         | inr t ↦ let (y, m, fy) = not_all f l t in (y, inr m, fy)
       ]
@@ -103,11 +96,13 @@ module _ {A : Type 0} where
       (f g : A → Bool) →
       ((x : A) → g x ≡ true → f x ≡ true) →
       (l : List A) →
-      (count g l ≤ count f l) × (((x : A) → Among x l → f x ≡ true → g x ≡ true) ⊎ (count g l < count f l))
+      (count_by g l ≤ count_by f l) × (((x : A) → Among x l → f x ≡ true → g x ≡ true) ⊎ (count_by g l < count_by f l))
   shrinks f g sub [] = (omega arith, inl (λ x m t. absurd m))
   shrinks f g sub (y ∷ l) =
       let (le, rest) = shrinks f g sub l in
-      let (le₁, here) = bits (f y) (g y) (sub y) in (
+      let (le₁, here) = bits (f y) (g y) (sub y) in
+      let cf = sum_by-cons (λ x. cond (f x) 1 0) y l in
+      let cg = sum_by-cons (λ x. cond (g x) 1 0) y l in (
         omega arith,
         elim here [
           | inr lt ↦ inr (omega arith)

@@ -7,7 +7,7 @@ use Rattle.std.proofs.lemmas.Bool.Decides.{nat_tests}
 use Rattle.expression.specs.Expressions.{Expr, letter, empty, pair, or, star, admits_empty}
 use Rattle.expression.specs.Members.{any}
 use Rattle.expression.specs.Places.{letter_count, codes, code, Item, item, continuations, continuation, all_admit_empty, heads, all_heads, follows, may_end}
-use Rattle.containment.specs.Checking.{from}
+use Rattle.std.specs.List.{range_with_len}
 use Rattle.containment.specs.Stepping.{closes, comes, coded, places}
 
 any_append : {A : Type 0} (f : A → Bool) (l m : List A) → any f (l ++ m) ≡ any f l || any f m
@@ -137,20 +137,23 @@ module _ (s : ℕ → Bool) where
 
   -- By places, where c gives the members of the list.
   some_any : (f : List Item → Bool) (c : ℕ → List Item) (o : ℕ) (l : List (List Item)) → ((j : ℕ) → j < length l → c (suc (o + j)) ≡ get_or l j [])
-      → some f o l ≡ any (λ p. s p && f (c p)) (from (suc o) (length l))
+      → some f o l ≡ any (λ p. s p && f (c p)) (range_with_len (suc o) (length l))
   some_any f c o [] h = refl
   some_any f c o (x ∷ l) h =
       let here : c (suc o) ≡ x = ap (λ i. c (suc i)) (sym (add-zero o)) ∙ h 0 (omega arith) in
-      rw (here, some_any f c (suc o) l (λ j b. ap (λ i. c (suc i)) (shift j) ∙ h (suc j) (omega arith)))
+      rw (here, some_any f c (suc o) l (λ j b. ap (λ i. c (suc i)) (shift j) ∙ h (suc j) (omega arith)), one)
     where
+      one : suc o + 1 ≡ suc (suc o)
+      one = omega arith
+
       shift : (j : ℕ) → suc o + j ≡ o + suc j
       shift j = omega arith
 
   -- The places after 0, by their continuations.
-  by_place : (f : List Item → Bool) (e : Expr) → some f 0 (continuations 0 e []) ≡ any (λ p. s p && f (continuation e p)) (from 1 (letter_count e))
+  by_place : (f : List Item → Bool) (e : Expr) → some f 0 (continuations 0 e []) ≡ any (λ p. s p && f (continuation e p)) (range_with_len 1 (letter_count e))
   by_place f e =
       some_any f (continuation e) 0 (continuations 0 e []) (λ j b. ap (λ i. get_or (continuations 0 e []) i []) (zero_plus j))
-      ∙ ap (λ n. any (λ p. s p && f (continuation e p)) (from 1 n)) (count 0 e [])
+      ∙ ap (λ n. any (λ p. s p && f (continuation e p)) (range_with_len 1 n)) (count 0 e [])
     where
       zero_plus : (j : ℕ) → 0 + j ≡ j
       zero_plus j = omega arith

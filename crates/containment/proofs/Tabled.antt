@@ -1,39 +1,32 @@
 -- Rows judged by tables: what the tables say is what the tests ask.
-use Rattle.std.proofs.Common.{◌≡◌, ℕ, suc, ◌+◌, ◌-◌, ◌<◌, ◌≤◌, Bool, true, false, cond, not, ◌&&◌, eqb, List, [], ◌∷◌, length, drop, is_some, Some, None, Option, sym, refl, ap, ◌∙◌, subst, inl, inr, arith, eq-eqb}
+use Rattle.std.proofs.Common.{◌≡◌, ℕ, zero, suc, ◌+◌, ◌<◌, ◌≤◌, Bool, true, false, cond, not, ◌&&◌, eqb, List, [], ◌∷◌, length, drop, find, Some, None, Ok, Err, Option, sym, refl, ap, ◌∙◌, subst, inl, inr, arith, eq-eqb}
+use Rattle.std.proofs.lemmas.Bool.{and_parts, and_from}
 use Prim.{tt}
 use mathlib.Core.Bool.{or-false}
 use borrow.Author.Tests.{clash}
+use Rattle.std.specs.List.{list_all, range_with_len}
 use Rattle.expression.specs.declared.node.Node.{Node}
 use Rattle.expression.specs.Expressions.{Expr}
+use Rattle.expression.specs.Layouts.{nodes_of, places_of, expression_of}
 use Rattle.expression.specs.Members.{any}
 use Rattle.expression.specs.Places.{letter_count, follows, may_end}
 use Rattle.containment.specs.declared.after.After.{After}
-use Rattle.containment.specs.declared.index.Index.{Index}
+use Rattle.expression.specs.declared.layout.Layout.{Layout}
 use Rattle.containment.specs.declared.fault.RowsFault.{RowsFault}
 use Rattle.containment.specs.declared.fault.RowsFault.TheVariants.{Start, End}
-use Rattle.containment.specs.Format.{rows_of}
-use Rattle.containment.specs.Indexing.{Listed}
-use Rattle.containment.specs.Scenes.{Scene, Ready}
+use Rattle.containment.specs.Format.{ill, rows_of, Formed}
+use Rattle.containment.specs.Indexing.{Listed, Low}
 use Rattle.containment.specs.Rows.{Row, row, row_at, Among, Rises, Ranged}
-use Rattle.containment.specs.Checking.{all, from, first, lowest, is_none, unserved, at_follower, row_fault, rows_fault, or_else, rules_fault, begins}
+use Rattle.containment.specs.Checking.{unserved, at_follower, row_fault, rows_fault, or_else, rules_fault, begins, verdict}
 use Rattle.containment.specs.Passes.{AllCoded, ComesAfter}
 use Rattle.containment.specs.Serving.{Marks, unserved_by}
 use Rattle.containment.specs.Stepping.{marked, places}
 use Rattle.containment.specs.Wiring.{whole}
-use Rattle.containment.proofs.Booleans.{both, fst, snd, same}
+use Rattle.containment.proofs.Booleans.{same}
 use Rattle.containment.proofs.Lists.{from_in, member_in, any_some, any_in, nth_in}
-use Rattle.containment.proofs.Judging.{lowest_stop, lowest_turn, rest_turn, rest_end}
-
--- A turn of the search for the lowest number, below n.
-module _ (g : ℕ → Bool) (i n : ℕ) (lt : i < n) where
-  left : n - i ≡ suc (n - (i + 1))
-  left = omega arith
-
-  pub lowest_here : g i ≡ true → lowest g (from i (n - i)) ≡ Some i
-  lowest_here t = ap (λ k. lowest g (from i k)) left ∙ lowest_stop g i (n - (i + 1)) t
-
-  pub lowest_next : g i ≡ false → lowest g (from i (n - i)) ≡ lowest g (from (i + 1) (n - (i + 1)))
-  lowest_next t = let e : suc i ≡ i + 1 = omega arith in ap (λ k. lowest g (from i k)) left ∙ lowest_turn g i (n - (i + 1)) t ∙ ap (λ k. lowest g (from k (n - (i + 1)))) e
+use Rattle.containment.proofs.Format.{formed}
+use Rattle.containment.proofs.Wiring.{wired}
+use Rattle.containment.proofs.Judging.{rest_turn}
 
 -- Each place of a set that rises is at most the bound.
 rises_most : (least most : ℕ) (l : List ℕ) → Rises least most l → (q : ℕ) → Among q l → q ≤ most
@@ -48,12 +41,12 @@ module _ (e : Expr) (set : List ℕ) (table : List Bool) (m : Marks set table) (
       same _ _
       (λ t.
       let (p, k, b) = any_some (λ p. marked table p && f p) (places e) t in
-      any_in f set p (member_in p set (sym (m p) ∙ fst (marked table p) (f p) b)) (snd (marked table p) (f p) b))
+      any_in f set p (member_in p set (sym (m p) ∙ (and_parts (marked table p) (f p) b).0)) (and_parts (marked table p) (f p) b).1)
       (λ t.
       let (p, k, b) = any_some f set t in
       let l = low p k in
       any_in (λ p. marked table p && f p) (places e) p (from_in (suc (letter_count e)) 0 p (omega arith) (omega arith))
-      (both (marked table p) (f p) (m p ∙ any_in (eqb p) set p k (eq-eqb p p refl)) b))
+      (and_from (marked table p) (f p) (m p ∙ any_in (eqb p) set p k (eq-eqb p p refl)) b))
 
 module _ (earlier later : List Node) (rows : List Row) (n : ℕ) where
   abbrev a : Expr
@@ -91,17 +84,17 @@ module _ (earlier later : List Node) (rows : List Row) (n : ℕ) where
     module _ (codes₁ codes₂ : List ℕ) (c₁ : AllCoded earlier codes₁) (c₂ : AllCoded later codes₂) where
       unserved_same : (f : ℕ) → unserved_by rows before.follow codes₁ after.follow codes₂ f ≡ unserved a b rows r f
       unserved_same f =
-          λ i. place_follow f i && is_none (first (λ (o : Row). eqb o.place f && all (λ q. eqb (c₂ q i) (c₁ f i) && set_follow q i) o.set) 0 rows)
+          λ i. place_follow f i && not (any (λ (o : Row). eqb o.place f && list_all (λ q. eqb (c₂ q i) (c₁ f i) && set_follow q i) o.set) rows)
 
       abbrev least : Option ℕ
-      least = lowest (unserved_by rows before.follow codes₁ after.follow codes₂) (from 1 (letter_count a))
+      least = find (unserved_by rows before.follow codes₁ after.follow codes₂) (range_with_len 1 (letter_count a))
 
-      least_same : least ≡ lowest (unserved a b rows r) (from 1 (letter_count a))
-      least_same = λ i. lowest (λ f. unserved_same f i) (from 1 (letter_count a))
+      least_same : least ≡ find (unserved a b rows r) (range_with_len 1 (letter_count a))
+      least_same = λ i. find (λ f. unserved_same f i) (range_with_len 1 (letter_count a))
 
       pub row_end : before.ends && not after.ends ≡ true → row_fault a b rows n r ≡ Some (End n)
       row_end t =
-          ap (λ c. cond c (at_follower n (lowest (unserved a b rows r) (from 1 (letter_count a)))) (Some (End n)))
+          ap (λ c. cond c (at_follower n (find (unserved a b rows r) (range_with_len 1 (letter_count a)))) (Some (End n)))
           (stuck (may_end a r.place) (any (may_end b) r.set) ((λ i. sym place_ends i && not (sym set_ends i)) ∙ t))
         where
           stuck : (x y : Bool) → x && not y ≡ true → cond x y true ≡ false
@@ -111,7 +104,7 @@ module _ (earlier later : List Node) (rows : List Row) (n : ℕ) where
 
       pub row_goes : before.ends && not after.ends ≡ false → row_fault a b rows n r ≡ at_follower n least
       row_goes t =
-          ap (λ c. cond c (at_follower n (lowest (unserved a b rows r) (from 1 (letter_count a)))) (Some (End n)))
+          ap (λ c. cond c (at_follower n (find (unserved a b rows r) (range_with_len 1 (letter_count a)))) (Some (End n)))
           (free (may_end a r.place) (any (may_end b) r.set) ((λ i. sym place_ends i && not (sym set_ends i)) ∙ t))
           ∙ ap (at_follower n) (sym least_same)
         where
@@ -120,71 +113,78 @@ module _ (earlier later : List Node) (rows : List Row) (n : ℕ) where
           free true false e = absurd (clash (sym e))
           free false y e = refl
 
--- The same, where the row's place and set were read.
-module _ (earlier later : List Node) (codes₁ codes₂ ns : List ℕ) (index : Index) (s : Ready earlier later codes₁ codes₂ ns index) (n : ℕ) (lt : n < length (rows_of ns)) where
+pub places_few : (l : Layout) → places_of l ≤ 128
+places_few l = omega (arith, (wired l).places, (wired l).few)
+
+-- Where the list is well formed between two layouts.
+module _ (l l' : Layout) (ns : List ℕ) (well : ill (places_of l) (places_of l') ns ≡ None) where
   abbrev rows : List Row
   rows = rows_of ns
 
-  in_range : Ranged (letter_count (whole earlier)) (letter_count (whole later)) (row_at rows n)
-  in_range = s.scene.formed.ranged (row_at rows n) (nth_in (row 0 []) rows n lt)
+  pub formed_here : Formed (letter_count (expression_of l)) (letter_count (expression_of l')) rows ns
+  formed_here = formed (letter_count (expression_of l)) (letter_count (expression_of l')) ns ((λ i. ill (sym (wired l).places i) (sym (wired l').places i) ns) ∙ well)
 
-  pub read_low : (place : ℕ) → place ≡ (row_at rows n).place → place < 129
-  read_low place e = let few = s.scene.earlier_wired.few in let k = in_range.place in omega arith
+  rises_wide : (least most : ℕ) (s : List ℕ) → most ≤ 128 → Rises least most s → Rises least 128 s
+  rises_wide least most [] h r = tt
+  rises_wide least most (q ∷ s) h r = (r.0, let k = r.1 in omega arith, rises_wide (suc q) most s h r.2)
 
-  module _ (place : ℕ) (set : List ℕ) (pe : place ≡ (row_at rows n).place) (se : set ≡ (row_at rows n).set)
-      (place-table set-table : List Bool) (pm : Marks (place ∷ []) place-table) (sm : Marks set set-table)
-      (before after : After) (ba : ComesAfter earlier place-table before) (aa : ComesAfter later set-table after) where
-    place_marks : Marks ((row_at rows n).place ∷ []) place-table
-    place_marks = subst (λ (p : ℕ). Marks (p ∷ []) place-table) pe pm
+  pub listed : Listed rows ns
+  listed =
+      let m = (wired l).few in
+      let k = (wired l').few in
+      record {
+        flat = formed_here.flat;
+        ranged = λ r j. let x = formed_here.ranged r j in record { place = let p = x.place in omega arith; set = rises_wide 0 _ r.set k x.set };
+        short = formed_here.short;
+      }
 
-    set_marks : Marks (row_at rows n).set set-table
-    set_marks = subst (λ (l : List ℕ). Marks l set-table) se sm
+  -- Row n, whose place and set were read, and what comes after them.
+  module _ (n : ℕ) (lt : n < length rows) where
+    in_range : Ranged (letter_count (expression_of l)) (letter_count (expression_of l')) (row_at rows n)
+    in_range = formed_here.ranged (row_at rows n) (nth_in (row 0 []) rows n lt)
 
-    pub ends_fault : before.ends && not after.ends ≡ true → row_fault (whole earlier) (whole later) rows n (row_at rows n) ≡ Some (End n)
-    ends_fault = row_end earlier later rows n in_range place-table set-table place_marks set_marks before after ba aa codes₁ codes₂ s.earlier_coded s.later_coded
+    pub place_low : (place : ℕ) → place ≡ (row_at rows n).place → Low (place ∷ [])
+    place_low place pe zero d b = let few = (wired l).few in let k = in_range.place in omega arith
+    place_low place pe (suc i) d b = absurd (omega arith)
 
-    pub goes_fault : (k : ℕ) → k ≡ letter_count (whole earlier) → (o : Option ℕ) → o ≡ lowest (unserved_by rows before.follow codes₁ after.follow codes₂) (from 1 k)
-        → before.ends && not after.ends ≡ false → row_fault (whole earlier) (whole later) rows n (row_at rows n) ≡ at_follower n o
-    goes_fault k ke o e t =
-        row_goes earlier later rows n in_range place-table set-table place_marks set_marks before after ba aa codes₁ codes₂ s.earlier_coded s.later_coded t
-        ∙ ap (at_follower n) (ap (λ v. lowest (unserved_by rows before.follow codes₁ after.follow codes₂) (from 1 v)) (sym ke) ∙ sym e)
+    module _ (place : ℕ) (set : List ℕ) (pe : place ≡ (row_at rows n).place) (se : set ≡ (row_at rows n).set) (place-table set-table : List Bool) (pm : Marks (place ∷ []) place-table) (sm : Marks set set-table)
+        (before after : After) (ba : ComesAfter (nodes_of l) place-table before) (aa : ComesAfter (nodes_of l') set-table after)
+        (codes₁ codes₂ : List ℕ) (c₁ : AllCoded (nodes_of l) codes₁) (c₂ : AllCoded (nodes_of l') codes₂) where
+      place_marks : Marks ((row_at rows n).place ∷ []) place-table
+      place_marks = subst (λ (p : ℕ). Marks (p ∷ []) place-table) pe pm
 
-rises_wide : (least most : ℕ) (l : List ℕ) → most ≤ 128 → Rises least most l → Rises least 128 l
-rises_wide least most [] h r = tt
-rises_wide least most (q ∷ l) h r = (r.0, let k = r.1 in omega arith, rises_wide (suc q) most l h r.2)
+      set_marks : Marks (row_at rows n).set set-table
+      set_marks = subst (λ (s : List ℕ). Marks s set-table) se sm
 
-pub scene_listed : (earlier later : List Node) (ns : List ℕ) → Scene earlier later ns → Listed (rows_of ns) ns
-scene_listed earlier later ns s =
-    let m = s.earlier_wired.few in
-    let k = s.later_wired.few in
-    record {
-      flat = s.formed.flat;
-      ranged = λ r j. let x = s.formed.ranged r j in record { place = let p = x.place in omega arith; set = rises_wide 0 _ r.set k x.set };
-      short = s.formed.short;
-    }
+      pub ends_fault : before.ends && not after.ends ≡ true → row_fault (expression_of l) (expression_of l') rows n (row_at rows n) ≡ Some (End n)
+      ends_fault = row_end (nodes_of l) (nodes_of l') rows n in_range place-table set-table place_marks set_marks before after ba aa codes₁ codes₂ c₁ c₂
+
+      pub goes_fault : (o : Option ℕ) → o ≡ find (unserved_by rows before.follow codes₁ after.follow codes₂) (range_with_len 1 (places_of l))
+          → before.ends && not after.ends ≡ false → row_fault (expression_of l) (expression_of l') rows n (row_at rows n) ≡ at_follower n o
+      goes_fault o e t =
+          row_goes (nodes_of l) (nodes_of l') rows n in_range place-table set-table place_marks set_marks before after ba aa codes₁ codes₂ c₁ c₂ t
+          ∙ ap (at_follower n) (ap (λ v. find (unserved_by rows before.follow codes₁ after.follow codes₂) (range_with_len 1 v)) (sym (wired l).places) ∙ sym e)
+
+-- What a verdict tells of the fault.
+ok_is : (o : Option RowsFault) → Ok tt ≡ verdict o → o ≡ None
+ok_is None e = refl
+ok_is (Some f) e = absurd cc
+
+err_is : (o : Option RowsFault) (f : RowsFault) → Err f ≡ verdict o → o ≡ Some f
+err_is None f e = absurd cc
+err_is (Some g) f e = cc
 
 -- The rows one after another.
 module _ (a b : Expr) (rows : List Row) (begun : true ≡ begins rows) (n : ℕ) (inv : rows_fault a b rows 0 rows ≡ rows_fault a b rows n (drop n rows)) where
   begins_so : rules_fault a b rows ≡ rows_fault a b rows n (drop n rows)
   begins_so = ap (λ c. cond c (rows_fault a b rows 0 rows) (Some Start)) (sym begun) ∙ inv
 
-  pub rules_end : length rows ≤ n → None ≡ rules_fault a b rows
-  rules_end h = sym (begins_so ∙ rest_end a b rows n h)
+  module _ (lt : n < length rows) where
+    turn : (o : Option RowsFault) → row_fault a b rows n (row_at rows n) ≡ o → rows_fault a b rows n (drop n rows) ≡ or_else o (rows_fault a b rows (suc n) (drop (suc n) rows))
+    turn o e = rest_turn a b rows n lt ∙ ap (λ v. or_else v (rows_fault a b rows (suc n) (drop (suc n) rows))) e
 
-  module _ (o : Option RowsFault) (lt : n < length rows) (e : o ≡ row_fault a b rows n (row_at rows n)) where
-    turn : rows_fault a b rows n (drop n rows) ≡ or_else o (rows_fault a b rows (suc n) (drop (suc n) rows))
-    turn = rest_turn a b rows n lt ∙ ap (λ v. or_else v (rows_fault a b rows (suc n) (drop (suc n) rows))) (sym e)
+    pub rules_stop : (f : RowsFault) → Err f ≡ verdict (row_fault a b rows n (row_at rows n)) → Err f ≡ verdict (rules_fault a b rows)
+    rules_stop f e = ap verdict (sym (begins_so ∙ turn (Some f) (err_is _ f e)))
 
-    kept : (o o' : Option RowsFault) → true ≡ is_some o → or_else o o' ≡ o
-    kept (Some x) o' t = refl
-    kept None o' t = absurd (clash (sym t))
-
-    passed : (o o' : Option RowsFault) → false ≡ is_some o → or_else o o' ≡ o'
-    passed (Some x) o' t = absurd (clash t)
-    passed None o' t = refl
-
-    pub rules_stop : true ≡ is_some o → o ≡ rules_fault a b rows
-    rules_stop t = sym (begins_so ∙ turn ∙ kept o _ t)
-
-    pub rules_turn : false ≡ is_some o → rows_fault a b rows 0 rows ≡ rows_fault a b rows (n + 1) (drop (n + 1) rows)
-    rules_turn t = let s : suc n ≡ n + 1 = omega arith in inv ∙ turn ∙ passed o _ t ∙ ap (λ k. rows_fault a b rows k (drop k rows)) s
+    pub rules_turn : Ok tt ≡ verdict (row_fault a b rows n (row_at rows n)) → rows_fault a b rows 0 rows ≡ rows_fault a b rows (n + 1) (drop (n + 1) rows)
+    rules_turn e = let s : suc n ≡ n + 1 = omega arith in inv ∙ turn None (ok_is _ e) ∙ ap (λ k. rows_fault a b rows k (drop k rows)) s

@@ -43,32 +43,30 @@ module _ (l : Layout) where
       (means i h).letters ∙ part_letters ts (means i h).part
       ∙ ap (λ k. k + places.letter_count (expr_at ns i)) (sym (letters_same (node ns i).start (let b = (means i h).fits.low in omega arith)))
 
-  two : (join : Expr → Expr → Expr) (i : ℕ) → i < length ns → fitted.Two ns i (node ns i)
-      → expr_at ns i ≡ join (expr_at ns (node ns i).first) (expr_at ns (node ns i).second) → Two join ns i
-  two join i h t e =
-      let lo : (node ns i).second < i = omega (arith, t.second) in
-      let b = (means (node ns i).second (omega arith)).fits.low in
-      let first : (node ns i).first < i = omega (arith, t.first) in
+  two : (join : Expr → Expr → Expr) (i j k : ℕ) → i < length ns → fitted.Two ns i (node ns i) j k
+      → expr_at ns i ≡ join (expr_at ns j) (expr_at ns k) → Two join ns i j k
+  two join i j k h t e =
+      let lo : k < i = omega (arith, t.second) in
+      let b = (means k (omega arith)).fits.low in
+      let first : j < i = omega (arith, t.first) in
       record {
         expr = e;
         first = first;
         second = lo;
         same = ap (letters_to ns) (sym t.start);
-        next = ap (letters_to ns) (sym t.first) ∙ after (node ns i).first (omega arith)
-            ∙ ap (λ k. letters_to ns k + places.letter_count (expr_at ns (node ns i).first)) (sym t.start);
+        next = ap (letters_to ns) (sym t.first) ∙ after j (omega arith) ∙ ap (λ o. letters_to ns o + places.letter_count (expr_at ns j)) (sym t.start);
       }
 
-  local_by : (i : ℕ) → i < length ns → (s : Shape) → (node ns i).shape ≡ s → Shaped ns i (node ns i) s
-      → expr_at ns i ≡ expr_by (expr_at ns) (node ns i) s → Local ns i s
-  local_by i h Letter s t e =
+  local_by : (i : ℕ) → i < length ns → (s : Shape) → (node ns i).shape ≡ s → Shaped ns i (node ns i) s → expr_at ns i ≡ expr_by (expr_at ns) s → Local ns i s
+  local_by i h (Letter c) s t e =
       let f = (means i h).fits in
-      let one : letter_count (raw_shape (node ns i).code (node ns i).shape) ≡ 1 = ap (λ v. letter_count (raw_shape (node ns i).code v)) s in
+      let one : letter_count (raw_shape (node ns i).shape) ≡ 1 = ap (λ v. letter_count (raw_shape v)) s in
       record { expr = e; place = omega (arith, f.letters, one, ap (letters_to ns) t); few = f.few }
   local_by i h Empty s t e = e
-  local_by i h Pair s t e = two pair i h t e
-  local_by i h Or s t e = two or i h t e
-  local_by i h Star s t e =
-      record { expr = e; second = omega (arith, t.second); same = ap (letters_to ns) (sym t.start) }
+  local_by i h (Pair j k) s t e = two pair i j k h t e
+  local_by i h (Or j k) s t e = two or i j k h t e
+  local_by i h (Star j) s t e =
+      record { expr = e; child = omega (arith, t.child); same = ap (letters_to ns) (sym t.start) }
 
   pub wired : Wired ns
   wired =

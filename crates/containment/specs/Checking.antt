@@ -1,5 +1,6 @@
 -- The rules as tests, and the verdict that they compute. This serves the proofs only: Verdicts says what a verdict means.
-use Rattle.std.specs.Prelude.{ℕ, zero, suc, Bool, true, false, cond, ◌&&◌, List, [], ◌∷◌, Some, None, Ok, Err, Option, Result, ◌==◌}
+use Rattle.std.specs.Prelude.{ℕ, suc, Bool, true, false, if◌then◌else◌, not, ◌&&◌, List, [], ◌∷◌, find, Some, None, Ok, Err, Option, Result, ◌==◌}
+use Rattle.std.specs.List.{list_all, range_with_len}
 use Rattle.expression.specs.Expressions.{Expr}
 use Rattle.expression.specs.Members.{any}
 use Rattle.expression.specs.Places.{letter_count, code, follows, may_end}
@@ -10,27 +11,7 @@ use Rattle.containment.specs.Format.{ill, rows_of}
 
 -- y, if x.
 abbrev pub if_then : Bool → Bool → Bool
-if_then x y = cond x y true
-
--- Does every member pass a test?
-abbrev pub all : {A : Type 0} → (A → Bool) → List A → Bool
-all f [] = true
-all f (x ∷ l) = f x && all f l
-
--- n numbers from i on.
-abbrev pub from : ℕ → ℕ → List ℕ
-from i zero = []
-from i (suc n) = i ∷ from (suc i) n
-
--- The number of the first member that passes, counted from i.
-abbrev pub first : {A : Type 0} → (A → Bool) → ℕ → List A → Option ℕ
-first f i [] = None
-first f i (x ∷ l) = cond (f x) (Some i) (first f (suc i) l)
-
--- The first number that passes.
-abbrev pub lowest : (ℕ → Bool) → List ℕ → Option ℕ
-lowest f [] = None
-lowest f (x ∷ l) = cond (f x) (Some x) (lowest f l)
+if_then x y = if x then y else true
 
 -- Is it the set of 0 alone?
 abbrev pub only_zero : List ℕ → Bool
@@ -53,19 +34,15 @@ stepped b c s q = code b q == c && any (λ p. follows b p q) s
 
 -- Does the row o serve the follower f of the row r?
 abbrev pub serves : Expr → Expr → Row → ℕ → Row → Bool
-serves a b r f o = o.place == f && all (stepped b (code a f) r.set) o.set
+serves a b r f o = o.place == f && list_all (stepped b (code a f) r.set) o.set
 
--- The number of the first row that serves f.
-abbrev pub serving : Expr → Expr → List Row → Row → ℕ → Option ℕ
-serving a b rows r f = first (serves a b r f) 0 rows
-
-abbrev pub is_none : {A : Type 0} → Option A → Bool
-is_none None = true
-is_none (Some x) = false
+-- Does some row serve f?
+abbrev pub served : Expr → Expr → List Row → Row → ℕ → Bool
+served a b rows r f = any (serves a b r f) rows
 
 -- Is f a follower that no row serves?
 abbrev pub unserved : Expr → Expr → List Row → Row → ℕ → Bool
-unserved a b rows r f = follows a r.place f && is_none (serving a b rows r f)
+unserved a b rows r f = follows a r.place f && not (served a b rows r f)
 
 -- Rule 3 is broken for the follower, if there is one.
 abbrev pub at_follower : ℕ → Option ℕ → Option RowsFault
@@ -75,7 +52,7 @@ at_follower n (Some f) = Some (Follower n f)
 -- The fault of the row r with number n.
 abbrev pub row_fault : Expr → Expr → List Row → ℕ → Row → Option RowsFault
 row_fault a b rows n r =
-    cond (ends_too a b r) (at_follower n (lowest (unserved a b rows r) (from 1 (letter_count a)))) (Some (End n))
+    if ends_too a b r then at_follower n (find (unserved a b rows r) (range_with_len 1 (letter_count a))) else Some (End n)
 
 abbrev pub or_else : Option RowsFault → Option RowsFault → Option RowsFault
 or_else None o = o
@@ -88,7 +65,7 @@ rows_fault a b rows n (r ∷ l) = or_else (row_fault a b rows n r) (rows_fault a
 
 -- The first fault of rows.
 abbrev pub rules_fault : Expr → Expr → List Row → Option RowsFault
-rules_fault a b rows = cond (begins rows) (rows_fault a b rows 0 rows) (Some Start)
+rules_fault a b rows = if begins rows then rows_fault a b rows 0 rows else Some Start
 
 abbrev pub ill_fault : Option ℕ → Option RowsFault → Option RowsFault
 ill_fault None o = o
@@ -102,3 +79,7 @@ list_fault a b ns = ill_fault (ill (letter_count a) (letter_count b) ns) (rules_
 abbrev pub verdict : Option RowsFault → Result Unit RowsFault
 verdict None = Ok tt
 verdict (Some f) = Err f
+
+-- The verdict on the order of a list, from where it is ill formed.
+abbrev pub order_verdict : Option ℕ → Result Unit RowsFault
+order_verdict o = verdict (ill_fault o None)

@@ -1,5 +1,5 @@
 -- Rows as one list of numbers: of each row its place, how many places its set has, and those places.
-use Rattle.std.specs.Prelude.{◌≡◌, ℕ, zero, suc, ◌+◌, ◌<◌, ◌≤◌, Bool, true, false, cond, ◌&&◌, ◌⊎◌, ◌↔◌, List, [], ◌∷◌, ◌++◌, length, take, drop, Some, None, Option, ◌≢◌, nat_le, slice_index}
+use Rattle.std.specs.Prelude.{◌≡◌, ℕ, zero, suc, ◌+◌, ◌<◌, ◌≤◌, Bool, true, false, if◌then◌else◌, ◌&&◌, ◌⊎◌, ◌↔◌, List, [], ◌∷◌, ◌++◌, length, take, drop, Some, None, Option, ◌≢◌, nat_le, slice_index}
 use Rattle.containment.specs.declared.want.Want.{Want}
 use Rattle.containment.specs.declared.want.Want.TheVariants.{Place, Size, Member}
 use Rattle.containment.specs.Rows.{Row, row, AllRanged}
@@ -58,7 +58,7 @@ abbrev pub ill_from : ℕ → ℕ → Want → ℕ → List ℕ → Option ℕ
 ill_from m k Place i [] = None
 ill_from m k Size i [] = Some i
 ill_from m k (Member left least) i [] = Some i
-ill_from m k w i (n ∷ ns) = cond (fits m k w n) (ill_from m k (after w n) (suc i) ns) (Some i)
+ill_from m k w i (n ∷ ns) = if fits m k w n then ill_from m k (after w n) (suc i) ns else Some i
 
 -- The lowest index at which one or more numbers are ill formed.
 abbrev pub ill_in : ℕ → ℕ → List ℕ → Option ℕ
@@ -67,7 +67,7 @@ ill_in m k (n ∷ ns) = ill_from m k Place 0 (n ∷ ns)
 
 -- The lowest index at which a list is ill formed: too long, then a number that is not wanted, or the end where more is wanted.
 abbrev pub ill : ℕ → ℕ → List ℕ → Option ℕ
-ill m k ns = cond (nat_le (length ns) most_numbers) (ill_in m k ns) (Some most_numbers)
+ill m k ns = if nat_le (length ns) most_numbers then ill_in m k ns else Some most_numbers
 
 -- Each number before index i is one that is wanted, and there the list ends and more is wanted, or stands one that is not.
 pub record FirstIll (m k : ℕ) (ns : List ℕ) (i : ℕ) : Type 0 where

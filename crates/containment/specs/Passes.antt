@@ -3,20 +3,19 @@ use Rattle.std.specs.Prelude.{◌≡◌, ℕ, ◌<◌, Bool, false, ◌&&◌, �
 use Rattle.expression.specs.declared.node.Node.{Node}
 use Rattle.expression.specs.declared.node.Shape.{Shape}
 use Rattle.expression.specs.declared.node.Shape.TheVariants.{Letter, Empty, Pair, Or, Star}
-use Rattle.expression.specs.Nodes.{node, expr_at}
+use Rattle.expression.specs.Nodes.{admits_at, expr_at}
 use Rattle.expression.specs.Places.{code}
 use Rattle.containment.specs.declared.after.After.{After}
 use Rattle.containment.specs.Stepping.{marked, closes, comes, coded, some_end, some_follow}
 use Rattle.containment.specs.Wiring.{before, whole}
 
--- The answer of node i, of shape s, from its children's.
+-- The answer of a node of this shape, from its children's. A letter's place is told beside it.
 abbrev pub closes_by : List Node → List Bool → List Bool → ℕ → Shape → Bool
-closes_by ns set closing i Letter = marked set (node ns i).letters
-closes_by ns set closing i Empty = false
-closes_by ns set closing i Pair =
-    marked closing (node ns i).second || ((node ns (node ns i).second).admits && marked closing (node ns i).first)
-closes_by ns set closing i Or = marked closing (node ns i).first || marked closing (node ns i).second
-closes_by ns set closing i Star = marked closing (node ns i).second
+closes_by ns set closing place (Letter c) = marked set place
+closes_by ns set closing place Empty = false
+closes_by ns set closing place (Pair i j) = marked closing j || (admits_at ns j && marked closing i)
+closes_by ns set closing place (Or i j) = marked closing i || marked closing j
+closes_by ns set closing place (Star i) = marked closing i
 
 -- The nodes below n have their answers.
 abbrev pub Closing : List Node → List Bool → List Bool → ℕ → Type 0

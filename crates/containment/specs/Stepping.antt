@@ -1,10 +1,10 @@
 -- What comes after a set of places, computed part by part. This serves the proofs only.
 -- A set of places is a table of tests; o letters stand before the part e.
-use Rattle.std.specs.Prelude.{ℕ, suc, ◌+◌, Bool, false, cond, ◌&&◌, ◌||◌, List, ◌==◌, slice_index_or}
+use Rattle.std.specs.Prelude.{ℕ, suc, ◌+◌, Bool, false, if◌then◌else◌, ◌&&◌, ◌||◌, List, ◌==◌, slice_index_or}
+use Rattle.std.specs.List.{range_with_len}
 use Rattle.expression.specs.Expressions.{Expr, letter, empty, pair, or, star, admits_empty}
 use Rattle.expression.specs.Members.{any}
 use Rattle.expression.specs.Places.{letter_count, follows, may_end}
-use Rattle.containment.specs.Checking.{from}
 
 -- Is p in the set?
 abbrev pub marked : List Bool → ℕ → Bool
@@ -28,7 +28,7 @@ comes s o (star x) r q = comes s o x (r || closes s o x) q
 
 -- The code of place q of e, or d where q is no place of e.
 abbrev pub coded : ℕ → Expr → ℕ → ℕ → ℕ
-coded o (letter a) q d = cond (q == suc o) a d
+coded o (letter a) q d = if q == suc o then a else d
 coded o empty q d = d
 coded o (pair x y) q d = coded (o + letter_count x) y q (coded o x q d)
 coded o (or x y) q d = coded (o + letter_count x) y q (coded o x q d)
@@ -36,7 +36,7 @@ coded o (star x) q d = coded o x q d
 
 -- The places of an expression.
 abbrev pub places : Expr → List ℕ
-places e = from 0 (suc (letter_count e))
+places e = range_with_len 0 (suc (letter_count e))
 
 -- May one of the set end?
 abbrev pub some_end : Expr → List Bool → Bool

@@ -16,32 +16,32 @@ before ns i = letters_to ns (node ns i).start
 abbrev pub whole : List Node → Expr
 whole ns = expr_at ns (last ns)
 
--- A letter, at the next place.
-pub record Leaf (ns : List Node) (i : ℕ) : Type 0 where
-  pub expr : expr_at ns i ≡ letter (node ns i).code
+-- The letter with the code c, at the next place.
+pub record Leaf (ns : List Node) (i c : ℕ) : Type 0 where
+  pub expr : expr_at ns i ≡ letter c
   pub place : (node ns i).letters ≡ suc (before ns i)
   pub few : (node ns i).letters ≤ 128
 
--- A node over two children, the second of which stands after the letters of the first.
-pub record Two (join : Expr → Expr → Expr) (ns : List Node) (i : ℕ) : Type 0 where
-  pub expr : expr_at ns i ≡ join (expr_at ns (node ns i).first) (expr_at ns (node ns i).second)
-  pub first : (node ns i).first < i
-  pub second : (node ns i).second < i
-  pub same : before ns (node ns i).first ≡ before ns i
-  pub next : before ns (node ns i).second ≡ before ns i + letter_count (expr_at ns (node ns i).first)
+-- A node over the children j and k, the second of which stands after the letters of the first.
+pub record Two (join : Expr → Expr → Expr) (ns : List Node) (i j k : ℕ) : Type 0 where
+  pub expr : expr_at ns i ≡ join (expr_at ns j) (expr_at ns k)
+  pub first : j < i
+  pub second : k < i
+  pub same : before ns j ≡ before ns i
+  pub next : before ns k ≡ before ns i + letter_count (expr_at ns j)
 
--- A node over one child.
-pub record One (ns : List Node) (i : ℕ) : Type 0 where
-  pub expr : expr_at ns i ≡ star (expr_at ns (node ns i).second)
-  pub second : (node ns i).second < i
-  pub same : before ns (node ns i).second ≡ before ns i
+-- A node over the child j.
+pub record One (ns : List Node) (i j : ℕ) : Type 0 where
+  pub expr : expr_at ns i ≡ star (expr_at ns j)
+  pub child : j < i
+  pub same : before ns j ≡ before ns i
 
 abbrev pub Local : List Node → ℕ → Shape → Type 0
-Local ns i Letter = Leaf ns i
+Local ns i (Letter c) = Leaf ns i c
 Local ns i Empty = expr_at ns i ≡ empty
-Local ns i Pair = Two pair ns i
-Local ns i Or = Two or ns i
-Local ns i Star = One ns i
+Local ns i (Pair j k) = Two pair ns i j k
+Local ns i (Or j k) = Two or ns i j k
+Local ns i (Star j) = One ns i j
 
 -- What the code needs to know of the nodes of a layout.
 pub record Wired (ns : List Node) : Type 0 where

@@ -1,154 +1,73 @@
 //! The judging of rows.
-ghost use Rattle.std.specs.Prelude.{◌≡◌, ◌<◌, ◌≤◌, ◌↔◌, length, Ok};
-ghost use Rattle.expression.specs.Layouts.{expression_of};
-ghost use Rattle.containment.specs.Checking.{from, lowest, row_fault, rules_fault, verdict};
+ghost use Rattle.std.specs.Prelude.{◌≡◌, ◌<◌, ◌≤◌, ◌↔◌, length, find, Ok};
+ghost use Rattle.std.specs.List.{range_with_len};
+ghost use Rattle.expression.specs.Layouts.{expression_of, places_of};
+ghost use Rattle.containment.specs.Checking.{row_fault, rules_fault, verdict};
 ghost use Rattle.containment.specs.Checking as checking;
-ghost use Rattle.containment.specs.Format.{rows_of};
-ghost use Rattle.containment.specs.Indexing.{Indexed};
 ghost use Rattle.containment.specs.Rows.{row_at};
-ghost use Rattle.containment.specs.Scenes.{Ready, Scene};
+ghost use Rattle.containment.specs.Scenes.{earlier_of, later_of, rows_in};
 ghost use Rattle.containment.specs.Serving.{unserved_by};
 ghost use Rattle.containment.specs.Theorems.{Contained};
 ghost use Rattle.containment.specs.Verdicts.{Admits, Judged};
-ghost use Rattle.containment.specs.Wiring.{whole};
 
+use crate::after::After;
 use crate::fault::RowsFault;
 use crate::index::Index;
-use crate::{list, lookup, passes, sets};
+use crate::scene::Scene;
+use crate::{list, sets};
 use expression::layout::Layout;
-use expression::node::Node;
 
-/// Is `f` a follower that no row serves?
-fn is_unserved(
-    index: &Index,
-    numbers: &[u16],
-    f: usize,
-    followers: &[bool; 129],
-    earlier_codes: &[u16; 129],
-    follow: &[bool; 129],
-    later_codes: &[u16; 129],
-) -> bool
-    requires indexed { Indexed numbers.now index.now }
-    requires within { f < 129 }
-    ensures { result ≡ unserved_by (rows_of numbers.now) followers.now earlier_codes.now follow.now later_codes.now f }
-{
-    followers[f]
-        && lookup::serving(index, numbers, f, follow, later_codes, earlier_codes[f]).is_none()
-}
+impl Scene<'_> {
+    /// Is the first row the place 0 with the set of 0 alone?
+    fn begins(&self) -> bool
+        ensures { result ≡ checking.begins (rows_in self.now) }
+    {
+        let first = self.rows.row(0);
+        first.place == 0 && matches!(first.set, [0])
+    }
 
-/// The lowest follower among 1 to `places` that no row serves.
-fn unserved(
-    places: u8,
-    index: &Index,
-    numbers: &[u16],
-    followers: &[bool; 129],
-    earlier_codes: &[u16; 129],
-    follow: &[bool; 129],
-    later_codes: &[u16; 129],
-) -> Option<usize>
-    requires indexed { Indexed numbers.now index.now }
-    requires few { places ≤ 128 }
-    ensures { result ≡ lowest (unserved_by (rows_of numbers.now) followers.now earlier_codes.now follow.now later_codes.now) (from 1 places) }
-{
-    for f in 1..places as usize + 1 {
-        if is_unserved(
-            index,
-            numbers,
-            f,
-            followers,
-            earlier_codes,
-            follow,
-            later_codes,
-        ) {
-            return Some(f);
+    /// The lowest of the followers `here` that no row serves, where the places `there` follow the row's set.
+    fn unserved(&self, here: &After, there: &After) -> Option<usize>
+        ensures { result ≡ find (unserved_by (rows_in self.now) here.now.follow self.now.earlier.codes there.now.follow self.now.later.codes)
+            (range_with_len 1 (places_of self.now.earlier.layout.now)) }
+    {
+        let codes = &self.earlier.codes;
+        (1..usize::from(self.earlier.layout.places()) + 1).find(|f| {
+            here.follow[*f]
+                && !self
+                    .rows
+                    .serves(*f, &there.follow, &self.later.codes, codes[*f])
+        })
+    }
+
+    /// Checks row `n`: rule 2 before rule 3.
+    fn check_row(&self, n: usize) -> Result<(), RowsFault>
+        requires { n < length (rows_in self.now) }
+        ensures { result ≡ verdict (row_fault (earlier_of self.now) (later_of self.now) (rows_in self.now) n (row_at (rows_in self.now) n)) }
+    {
+        let row = self.rows.row(n);
+        let here = self.earlier.after(&sets::marks(&[row.place]));
+        let there = self.later.after(&sets::marks(row.set));
+        if here.ends && !there.ends {
+            return Err(RowsFault::End(n));
+        }
+        match self.unserved(&here, &there) {
+            Some(f) => Err(RowsFault::Follower(n, f)),
+            None => Ok(()),
         }
     }
-    None
-}
 
-/// The fault of row `n`: rule 2 before rule 3.
-fn row_fault(
-    earlier: &[Node],
-    later: &[Node],
-    earlier_codes: &[u16; 129],
-    later_codes: &[u16; 129],
-    index: &Index,
-    numbers: &[u16],
-    n: usize,
-) -> Option<RowsFault>
-    requires ready { Ready earlier.now later.now earlier_codes.now later_codes.now numbers.now index.now }
-    requires within { n < length (rows_of numbers.now) }
-    ensures { result ≡ row_fault (whole earlier.now) (whole later.now) (rows_of numbers.now) n (row_at (rows_of numbers.now) n) }
-{
-    let here = passes::after(earlier, &sets::just(index.place(numbers, n)));
-    let there = passes::after(later, &sets::marks(index.set(numbers, n)));
-    let stuck = here.ends & !there.ends;
-    if stuck {
-        return Some(RowsFault::End(n));
-    }
-    let places = earlier[earlier.len() - 1].letters;
-    match unserved(
-        places,
-        index,
-        numbers,
-        &here.follow,
-        earlier_codes,
-        &there.follow,
-        later_codes,
-    ) {
-        Some(f) => Some(RowsFault::Follower(n, f)),
-        None => None,
-    }
-}
-
-/// Is the first row the place 0 with the set of 0 alone?
-fn begins(index: &Index, numbers: &[u16]) -> bool
-    requires indexed { Indexed numbers.now index.now }
-    requires some { 0 < length (rows_of numbers.now) }
-    ensures { result ≡ checking.begins (rows_of numbers.now) }
-{
-    let place = index.place(numbers, 0);
-    let set = index.set(numbers, 0);
-    place == 0 && set.len() == 1 && set[0] == 0
-}
-
-/// The first fault of well-formed rows: rule 1, then row by row.
-fn rules_fault(earlier: &[Node], later: &[Node], numbers: &[u16]) -> Option<RowsFault>
-    requires { Scene earlier.now later.now numbers.now }
-    ensures { result ≡ rules_fault (whole earlier.now) (whole later.now) (rows_of numbers.now) }
-{
-    let index = lookup::index(numbers);
-    if !begins(&index, numbers) {
-        return Some(RowsFault::Start);
-    }
-    let earlier_codes = passes::codes(earlier);
-    let later_codes = passes::codes(later);
-    for n in 0..index.count {
-        let fault = row_fault(
-            earlier,
-            later,
-            &earlier_codes,
-            &later_codes,
-            &index,
-            numbers,
-            n,
-        );
-        if fault.is_some() {
-            return fault;
+    /// Checks the rules: rule 1, then row by row.
+    fn check_rules(&self) -> Result<(), RowsFault>
+        ensures { result ≡ verdict (rules_fault (earlier_of self.now) (later_of self.now) (rows_in self.now)) }
+    {
+        if !self.begins() {
+            return Err(RowsFault::Start);
         }
-    }
-    None
-}
-
-/// The fault of a list of rows, if it has one.
-fn fault(earlier: &Layout, later: &Layout, rows: &[u16]) -> Option<RowsFault>
-    ensures judged { Judged (expression_of earlier.now) (expression_of later.now) rows.now (verdict result) }
-    ensures accepts { (verdict result ≡ Ok tt) ↔ Admits (expression_of earlier.now) (expression_of later.now) rows.now }
-    ensures sound { verdict result ≡ Ok tt → Contained (expression_of earlier.now) (expression_of later.now) }
-{
-    match list::ill_at(earlier.places(), later.places(), rows) {
-        Some(i) => Some(RowsFault::IllFormed(i)),
-        None => rules_fault(earlier.nodes(), later.nodes(), rows),
+        for n in 0..self.rows.count() {
+            self.check_row(n)?;
+        }
+        Ok(())
     }
 }
 
@@ -158,8 +77,7 @@ pub fn judge_rows(earlier: &Layout, later: &Layout, rows: &[u16]) -> Result<(), 
     ensures accepts { (result ≡ Ok tt) ↔ Admits (expression_of earlier.now) (expression_of later.now) rows.now }
     ensures sound { result ≡ Ok tt → Contained (expression_of earlier.now) (expression_of later.now) }
 {
-    match fault(earlier, later, rows) {
-        Some(fault) => Err(fault),
-        None => Ok(()),
-    }
+    list::check(earlier.places(), later.places(), rows)?;
+    let rows = Index::new(rows);
+    Scene::new(earlier, later, &rows).check_rules()
 }

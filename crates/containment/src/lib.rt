@@ -6,9 +6,11 @@ pub mod fault;
 mod index;
 pub mod judge;
 mod list;
-mod lookup;
+mod part;
 mod passes;
+mod places;
 pub mod refusal;
+mod scene;
 mod sets;
 #[cfg(test)]
 mod tests;

@@ -1,8 +1,10 @@
-//! The order of a list of rows: where it is ill formed.
+//! The order of the numbers in a list of rows.
 ghost use Rattle.std.specs.Prelude.{◌≡◌, ◌<◌};
+ghost use Rattle.containment.specs.Checking.{order_verdict};
 ghost use Rattle.containment.specs.declared.want.Want.TheVariants.{Place};
 ghost use Rattle.containment.specs.Format as format;
 
+use crate::fault::RowsFault;
 use crate::want::Want;
 
 /// The most numbers that a list may have.
@@ -24,9 +26,9 @@ fn fits(m: u8, k: u8, want: Want, number: usize) -> bool
     ensures { result ≡ format.fits m k want number }
 {
     match want {
-        Want::Place => number <= m as usize,
-        Want::Size => number <= k as usize + 1,
-        Want::Member(_, least) => least <= number && number <= k as usize,
+        Want::Place => number <= usize::from(m),
+        Want::Size => number <= usize::from(k) + 1,
+        Want::Member(_, least) => least <= number && number <= usize::from(k),
     }
 }
 
@@ -42,34 +44,33 @@ fn next(want: Want, number: usize) -> Want
     }
 }
 
-/// Where the numbers of rows are ill formed first, if they are.
-fn scan(m: u8, k: u8, numbers: &[u16]) -> Option<usize>
-    ensures { result ≡ format.ill_from m k Place 0 numbers.now }
+/// Checks the numbers of rows, one by one.
+fn check_each(m: u8, k: u8, numbers: &[u16]) -> Result<(), RowsFault>
+    ensures { result ≡ order_verdict (format.ill_from m k Place 0 numbers.now) }
 {
     let mut want = Want::Place;
     for (i, n) in numbers.iter().enumerate() {
-        let number = *n as usize;
+        let number = usize::from(*n);
         if !fits(m, k, want, number) {
-            return Some(i);
+            return Err(RowsFault::IllFormed(i));
         }
         want = next(want, number);
     }
     match want {
-        Want::Place => None,
-        _ => Some(numbers.len()),
+        Want::Place => Ok(()),
+        _ => Err(RowsFault::IllFormed(numbers.len())),
     }
 }
 
-/// The lowest index at which a list is ill formed, from m + 1 to k + 1 places.
-pub(crate) fn ill_at(m: u8, k: u8, numbers: &[u16]) -> Option<usize>
-    ensures { result ≡ format.ill m k numbers.now }
+/// Checks that a list is well formed, from m + 1 to k + 1 places.
+pub(crate) fn check(m: u8, k: u8, numbers: &[u16]) -> Result<(), RowsFault>
+    ensures { result ≡ order_verdict (format.ill m k numbers.now) }
 {
-    let count = numbers.len();
-    if count > MOST {
-        return Some(MOST);
+    if numbers.len() > MOST {
+        return Err(RowsFault::IllFormed(MOST));
     }
-    if count == 0 {
-        return Some(0);
+    if numbers.is_empty() {
+        return Err(RowsFault::IllFormed(0));
     }
-    scan(m, k, numbers)
+    check_each(m, k, numbers)
 }

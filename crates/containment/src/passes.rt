@@ -1,111 +1,89 @@
 //! Two passes over the nodes of a layout: up for the parts that may close with a place of a set, down for the places that come next.
-ghost use Rattle.std.specs.Prelude.{◌≡◌, ◌<◌, Bool, List, length};
+ghost use Rattle.std.specs.Prelude.{◌≡◌, Bool, List, length};
+ghost use Rattle.expression.specs.Layouts.{nodes_of};
 ghost use Rattle.expression.specs.Nodes.{node as node_of};
-ghost use Rattle.containment.specs.Passes.{AllCoded, Closing, Coded, ComesAfter, Spread, closes_by};
-ghost use Rattle.containment.specs.Wiring.{Wired};
+ghost use Rattle.containment.specs.Passes.{Closing, Coded, Spread, closes_by};
 
-use crate::after::After;
-use expression::node::{Node, Shape};
+use crate::part::Part;
+use expression::layout::Layout;
+use expression::node::Shape;
 
-/// May a word of node `i` close with a place of the set? Its children's answers stand in `closing`.
-fn closes_at(nodes: &[Node], set: &[bool; 129], closing: &[bool; 256], i: usize) -> bool
-    requires wired { Wired nodes.now }
-    requires within { i < length nodes.now }
-    ensures { result ≡ closes_by nodes.now set.now closing.now i (node_of nodes.now i).shape }
-{
-    let node = nodes[i];
-    let first = closing[node.first as usize];
-    let second = closing[node.second as usize];
-    match node.shape {
-        Shape::Letter => set[node.letters as usize],
-        Shape::Empty => false,
-        Shape::Pair => second || (nodes[node.second as usize].admits && first),
-        Shape::Or => first || second,
-        Shape::Star => second,
+#[tactic(auto, using(crate::proofs::Wiring::wired))]
+impl Part<'_> {
+    /// May a word of the part close with a place of the set? The answers of its children stand in `closing`.
+    fn closes(self, set: &[bool; 129], closing: &[bool; 256]) -> bool
+        ensures { result ≡ closes_by (nodes_of self.entry.layout.now) set.now closing.now (node_of (nodes_of self.entry.layout.now) self.entry.node).letters
+            (node_of (nodes_of self.entry.layout.now) self.entry.node).shape }
+    {
+        let here = self.read();
+        match here.shape {
+            Shape::Letter(_) => set[usize::from(here.letters)],
+            Shape::Empty => false,
+            Shape::Pair(first, second) => {
+                closing[usize::from(second)]
+                    || (self.below(second).read().admits && closing[usize::from(first)])
+            }
+            Shape::Or(first, second) => closing[usize::from(first)] || closing[usize::from(second)],
+            Shape::Star(child) => closing[usize::from(child)],
+        }
+    }
+
+    /// Adds the places of the part that come next; `reached` says whether the first ones of its words do.
+    pub(crate) fn spread(self, closing: &[bool; 256], reached: bool, out: &mut [bool; 129])
+        ensures { (set : List Bool) → Closing (nodes_of self.entry.layout.now) set closing.now (length (nodes_of self.entry.layout.now))
+            → Spread (nodes_of self.entry.layout.now) set self.entry.node reached out.old out.new }
+    {
+        let here = self.read();
+        match here.shape {
+            Shape::Letter(_) => {
+                if reached {
+                    out[usize::from(here.letters)] = true;
+                }
+            }
+            Shape::Empty => {}
+            Shape::Pair(first, second) => {
+                let before = self.below(first);
+                before.spread(closing, reached, out);
+                let past = (reached && before.read().admits) || closing[usize::from(first)];
+                self.below(second).spread(closing, past, out);
+            }
+            Shape::Or(first, second) => {
+                self.below(first).spread(closing, reached, out);
+                self.below(second).spread(closing, reached, out);
+            }
+            Shape::Star(child) => {
+                let again = reached || closing[usize::from(child)];
+                self.below(child).spread(closing, again, out);
+            }
+        }
+    }
+
+    /// Puts the codes of the part's places into a table.
+    pub(crate) fn put_codes(self, out: &mut [u16; 129])
+        ensures { Coded (nodes_of self.entry.layout.now) self.entry.node out.old out.new }
+    {
+        let here = self.read();
+        match here.shape {
+            Shape::Letter(code) => out[usize::from(here.letters)] = code,
+            Shape::Empty => {}
+            Shape::Pair(first, second) | Shape::Or(first, second) => {
+                self.below(first).put_codes(out);
+                self.below(second).put_codes(out);
+            }
+            Shape::Star(child) => self.below(child).put_codes(out),
+        }
     }
 }
 
 /// Which nodes have a word that closes with a place of the set?
-fn closing(nodes: &[Node], set: &[bool; 129]) -> [bool; 256]
-    requires { Wired nodes.now }
-    ensures { Closing nodes.now set.now result (length nodes.now) }
+pub(crate) fn closing(layout: &Layout, set: &[bool; 129]) -> [bool; 256]
+    ensures { Closing (nodes_of layout.now) set.now result (length (nodes_of layout.now)) }
 {
     let mut closing = [false; 256];
-    for i in 0..nodes.len() {
-        let closes = closes_at(nodes, set, &closing, i);
-        closing[i] = closes;
+    // Kept: a part is told by its node's number, and its children's answers are found by theirs.
+    for node in 0..layout.len() as u8 {
+        let closes = Part { layout, node }.closes(set, &closing);
+        closing[usize::from(node)] = closes;
     }
     closing
-}
-
-/// Adds the places of node `i` that come next; `reached` says whether the first ones of its words do.
-fn spread(nodes: &[Node], closing: &[bool; 256], i: usize, reached: bool, out: &mut [bool; 129])
-    requires wired { Wired nodes.now }
-    requires within { i < length nodes.now }
-    ensures { (set : List Bool) → Closing nodes.now set closing.now (length nodes.now)
-        → Spread nodes.now set i reached out.old out.new }
-{
-    let node = nodes[i];
-    let first = usize::from(node.first);
-    let second = usize::from(node.second);
-    match node.shape {
-        Shape::Letter => {
-            if reached {
-                out[node.letters as usize] = true;
-            }
-        }
-        Shape::Empty => {}
-        Shape::Pair => {
-            spread(nodes, closing, first, reached, out);
-            let past = (reached && nodes[first].admits) || closing[first];
-            spread(nodes, closing, second, past, out);
-        }
-        Shape::Or => {
-            spread(nodes, closing, first, reached, out);
-            spread(nodes, closing, second, reached, out);
-        }
-        Shape::Star => spread(nodes, closing, second, reached || closing[second], out),
-    }
-}
-
-/// What comes after the places of a set.
-pub(crate) fn after(nodes: &[Node], set: &[bool; 129]) -> After
-    requires { Wired nodes.now }
-    ensures { ComesAfter nodes.now set.now result }
-{
-    let closing = closing(nodes, set);
-    let root = nodes.len() - 1;
-    let mut follow = [false; 129];
-    spread(nodes, &closing, root, set[0], &mut follow);
-    let start = set[0];
-    let ends = start & nodes[root].admits | closing[root];
-    After { ends, follow }
-}
-
-/// Puts the codes of the places of node `i` into a table.
-fn put_codes(nodes: &[Node], i: usize, out: &mut [u16; 129])
-    requires wired { Wired nodes.now }
-    requires within { i < length nodes.now }
-    ensures { Coded nodes.now i out.old out.new }
-{
-    let node = nodes[i];
-    match node.shape {
-        Shape::Letter => out[node.letters as usize] = node.code,
-        Shape::Empty => {}
-        Shape::Pair | Shape::Or => {
-            put_codes(nodes, node.first as usize, out);
-            put_codes(nodes, node.second as usize, out);
-        }
-        Shape::Star => put_codes(nodes, node.second as usize, out),
-    }
-}
-
-/// The codes of the places, by place.
-pub(crate) fn codes(nodes: &[Node]) -> [u16; 129]
-    requires { Wired nodes.now }
-    ensures { AllCoded nodes.now result }
-{
-    let mut out = [0; 129];
-    put_codes(nodes, nodes.len() - 1, &mut out);
-    out
 }

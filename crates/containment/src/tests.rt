@@ -4,12 +4,28 @@ use crate::word::refutes;
 use alphabet::bytes::Bytes;
 use expression::layout::Layout;
 use expression::raw::RawNode;
+use figures::Figures;
 use std::alloc::Global;
 use std::test::Fail;
 
 const A: RawNode = RawNode::Letter(97);
 
 const B: RawNode = RawNode::Letter(98);
+
+/// What `judge` refuses between two tables, or none if it accepts.
+fn refusal<F: Into<Figures>, J: FnOnce(&Layout, &Layout) -> Result<(), F>>(
+    heap: Global,
+    earlier: &[RawNode],
+    later: &[RawNode],
+    judge: J,
+) -> Option<(u16, usize, usize)>
+    requires { J.IsAlwaysCallable judge }
+{
+    let earlier = Layout::new::<Bytes>(heap, earlier).ok()?;
+    let later = Layout::new::<Bytes>(heap, later).ok()?;
+    let figures = judge(&earlier, &later).err()?.into();
+    Some((figures.number, figures.first, figures.second))
+}
 
 /// The refusal of rows between two tables, or none if they are accepted.
 fn rows(
@@ -18,12 +34,12 @@ fn rows(
     later: &[RawNode],
     rows: &[u16],
 ) -> Option<(u16, usize, usize)> {
-    let earlier = Layout::new::<Bytes>(heap, earlier).ok()?;
-    let later = Layout::new::<Bytes>(heap, later).ok()?;
-    match judge_rows(&earlier, &later, rows) {
-        Ok(()) => None,
-        Err(fault) => Some(fault.refusal()),
-    }
+    refusal(
+        heap,
+        earlier,
+        later,
+        |earlier, later| judge_rows(earlier, later, rows),
+    )
 }
 
 /// The refusal of a word between two tables, or none if it is accepted.
@@ -33,12 +49,12 @@ fn word(
     later: &[RawNode],
     word: &[u8],
 ) -> Option<(u16, usize, usize)> {
-    let earlier = Layout::new::<Bytes>(heap, earlier).ok()?;
-    let later = Layout::new::<Bytes>(heap, later).ok()?;
-    match refutes::<Bytes>(&earlier, &later, word) {
-        Ok(()) => None,
-        Err(fault) => Some(fault.refusal()),
-    }
+    refusal(
+        heap,
+        earlier,
+        later,
+        |earlier, later| refutes::<Bytes>(earlier, later, word),
+    )
 }
 
 #[test]

@@ -9,9 +9,13 @@ use containment::judge::judge_rows;
 use containment::word::refutes;
 use expression::layout::Layout;
 use expression::raw::RawNode;
+use figures::Figures;
 use std::alloc::{AllocError, Global};
 use std::io;
 use std::time::Instant;
+
+/// How often a list is judged.
+const TIMES: usize = 10;
 
 /// Adds the nodes of a star over `letters` letters, joined by ors.
 fn push_star(table: &mut Vec<RawNode>, letters: usize) -> Result<(), AllocError> {
@@ -25,19 +29,15 @@ fn push_star(table: &mut Vec<RawNode>, letters: usize) -> Result<(), AllocError>
     Ok(())
 }
 
-/// Each of 127 letters follows every other.
-fn earlier(heap: Global) -> Result<Option<Layout>, AllocError> {
+/// A layout of stars over so many letters each, joined by ors.
+fn layout(heap: Global, stars: &[usize]) -> Result<Option<Layout>, AllocError> {
     let mut table = Vec::new(heap);
-    push_star(&mut table, 127)?;
-    Ok(Layout::new::<Bytes>(heap, &table).ok())
-}
-
-/// The first 64 letters follow each other, and so do the other 60.
-fn later(heap: Global) -> Result<Option<Layout>, AllocError> {
-    let mut table = Vec::new(heap);
-    push_star(&mut table, 64)?;
-    push_star(&mut table, 60)?;
-    table.push(RawNode::Or)?;
+    for (i, letters) in stars.iter().enumerate() {
+        push_star(&mut table, *letters)?;
+        if i > 0 {
+            table.push(RawNode::Or)?;
+        }
+    }
     Ok(Layout::new::<Bytes>(heap, &table).ok())
 }
 
@@ -45,8 +45,8 @@ fn later(heap: Global) -> Result<Option<Layout>, AllocError> {
 fn push_row(numbers: &mut Vec<u16>, place: u16, first: u16, count: u16) -> Result<(), AllocError> {
     numbers.push(place)?;
     numbers.push(count)?;
-    for i in 0..count {
-        numbers.push(first.saturating_add(i))?;
+    for member in first..first.saturating_add(count) {
+        numbers.push(member)?;
     }
     Ok(())
 }
@@ -65,24 +65,29 @@ fn list(heap: Global, last: u16) -> Result<Vec<u16>, AllocError> {
     Ok(numbers)
 }
 
+/// The figures of a refusal, or zeros where there is none.
+fn figures<F: Into<Figures>>(refusal: Option<F>) -> (u16, usize, usize) {
+    refusal.map_or((0, 0, 0), |fault| {
+        let figures = fault.into();
+        (figures.number, figures.first, figures.second)
+    })
+}
+
 /// Judges the list ten times, and tells how often it was accepted and what it was refused for.
 fn judge(rt: &HostRuntime, earlier: &Layout, later: &Layout, last: u16) -> io::Result<()> {
     let numbers = list(rt.alloc(), last)?;
     let start = Instant::now(rt)?;
-    let mut accepted = 0u8;
-    let mut refused = 0u8;
-    let mut why = (0, 0, 0);
-    for _ in 0..10 {
-        match judge_rows(earlier, later, &numbers) {
-            Ok(()) => accepted = accepted.saturating_add(1),
-            Err(fault) => {
-                refused = refused.saturating_add(1);
-                why = fault.refusal();
-            }
+    let mut faults = Vec::new(rt.alloc());
+    for _ in 0..TIMES {
+        if let Err(fault) = judge_rows(earlier, later, &numbers) {
+            faults.push(fault)?;
         }
     }
     let time = start.elapsed(rt)?;
     let count = numbers.len();
+    let refused = faults.len();
+    let accepted = TIMES.saturating_sub(refused);
+    let why = figures(faults.pop());
     println!(rt; "{count} numbers: {accepted} accepted, {refused} refused {why:?}")?;
     eprintln!(rt; "ten times {count} numbers: {time:?}")
 }
@@ -91,22 +96,22 @@ fn judge(rt: &HostRuntime, earlier: &Layout, later: &Layout, last: u16) -> io::R
 fn judge_word(rt: &HostRuntime, earlier: &Layout, later: &Layout) -> io::Result<()> {
     let word = vec![in rt.alloc(); 97u8; 20000]?;
     let start = Instant::now(rt)?;
-    let why = match refutes::<Bytes>(earlier, later, &word) {
-        Ok(()) => (0, 0, 0),
-        Err(fault) => fault.refusal(),
-    };
+    let verdict = refutes::<Bytes>(earlier, later, &word);
     let time = start.elapsed(rt)?;
     let count = word.len();
+    let why = figures(verdict.err());
     println!(rt; "{count} letters: refused {why:?}")?;
     eprintln!(rt; "{count} letters: {time:?}")
 }
 
 fn main(rt: HostRuntime) -> io::Result<()> {
     let heap = rt.alloc();
-    let Some(earlier) = earlier(heap)? else {
+    // Each of 127 letters follows every other.
+    let Some(earlier) = layout(heap, &[127])? else {
         return println!(rt; "no layout");
     };
-    let Some(later) = later(heap)? else {
+    // The first 64 letters follow each other, and so do the other 60.
+    let Some(later) = layout(heap, &[64, 60])? else {
         return println!(rt; "no layout");
     };
     judge(&rt, &earlier, &later, 1)?;

@@ -1,31 +1,32 @@
 -- What turns spell along what is due, node by node.
-use Rattle.std.proofs.Common.{◌≡◌, ℕ, zero, suc, ◌+◌, ◌<◌, ◌≤◌, Bool, true, false, cond, List, [], ◌∷◌, ◌++◌, length, sym, refl, ap, ◌∙◌, append_assoc, add-zero, arith, length-append, le-ltb, lt-ltb}
-use mathlib.Core.Option.{Option as Maybe, some, none as nothing}
+use Rattle.std.proofs.Common.{◌≡◌, ℕ, zero, suc, ◌+◌, ◌<◌, ◌≤◌, Bool, true, false, cond, List, [], ◌∷◌, ◌++◌, length, sym, refl, ap, ◌∙◌, append_assoc, arith, length-append, le-ltb, lt-ltb, Some, None, Option}
+use Rattle.std.specs.Option.{option_map}
 use Rattle.expression.specs.Expressions.{Expr, pair, or, star}
-use Rattle.expression.specs.Following.{Due, due, along}
-use Rattle.expression.specs.Optional.{omap, and_then}
+use Rattle.expression.specs.Coming.{Due, due, along}
+use Rattle.expression.specs.Following.{NoTurn}
+use Rattle.expression.specs.Optional.{and_then}
 use Rattle.expression.specs.Trees.{Tree, both, more, spells, nonempty, has_letters}
 use Rattle.expression.specs.Turns.{Decoded, decoded, decode_list, decode, turns}
 use Rattle.expression.proofs.Decoding.{decode_only}
 
-pub omap_same : {A : Type 0} (o : Maybe (List A)) → omap (λ w. [] ++ w) o ≡ o
-omap_same nothing = refl
-omap_same (some w) = refl
+pub omap_same : {A : Type 0} (o : Option (List A)) → option_map (λ w. [] ++ w) o ≡ o
+omap_same None = refl
+omap_same (Some w) = refl
 
-omap_append : {A : Type 0} (a b : List A) (o : Maybe (List A)) → omap (λ w. (a ++ b) ++ w) o ≡ omap (λ w. a ++ w) (omap (λ w. b ++ w) o)
-omap_append a b nothing = refl
-omap_append a b (some w) = ap some (append_assoc a b w)
+omap_append : {A : Type 0} (a b : List A) (o : Option (List A)) → option_map (λ w. (a ++ b) ++ w) o ≡ option_map (λ w. a ++ w) (option_map (λ w. b ++ w) o)
+omap_append a b None = refl
+omap_append a b (Some w) = ap Some (append_assoc a b w)
 
-and_then_same : {A B : Type 0} (o : Maybe A) (f g : A → Maybe B) → ((a : A) → o ≡ some a → f a ≡ g a) → and_then o f ≡ and_then o g
-and_then_same nothing f g h = refl
-and_then_same (some a) f g h = h a refl
+and_then_same : {A B : Type 0} (o : Option A) (f g : A → Option B) → ((a : A) → o ≡ Some a → f a ≡ g a) → and_then o f ≡ and_then o g
+and_then_same None f g h = refl
+and_then_same (Some a) f g h = h a refl
 
-and_then_twice : {A B C : Type 0} (o : Maybe A) (f : A → Maybe B) (g : B → Maybe C) → and_then (and_then o f) g ≡ and_then o (λ a. and_then (f a) g)
-and_then_twice nothing f g = refl
-and_then_twice (some a) f g = refl
+and_then_twice : {A B C : Type 0} (o : Option A) (f : A → Option B) (g : B → Option C) → and_then (and_then o f) g ≡ and_then o (λ a. and_then (f a) g)
+and_then_twice None f g = refl
+and_then_twice (Some a) f g = refl
 
 -- What is read shortens the turns.
-pub decode_shorter : (e : Expr) (ts : List ℕ) (x : Decoded) → decode e ts ≡ some x → length x.rest ≤ length ts
+pub decode_shorter : (e : Expr) (ts : List ℕ) (x : Decoded) → decode e ts ≡ Some x → length x.rest ≤ length ts
 decode_shorter e ts x p =
     let q = (decode_only e ts x.tree x.rest p).1 in
     omega (arith, ap length q, length-append (turns x.tree) x.rest)
@@ -42,37 +43,30 @@ module _ (e : Expr) where
   enough (suc n) (suc m) (zero ∷ ts) l r = and_then_same (decode e ts) _ _ (λ x p. member x (decode_shorter e ts x p) (has_letters x.tree) (enough n m x.rest))
     where
       member : (x : Decoded) → length x.rest ≤ length ts → (b : Bool) → (length x.rest ≤ n → length x.rest ≤ m → decode_list (decode e) n x.rest ≡ decode_list (decode e) m x.rest)
-          → ◌≡◌ {A = Maybe Decoded} (cond b (and_then (decode_list (decode e) n x.rest) (λ y. some (decoded (more x.tree y.tree) y.rest))) nothing)
-          (cond b (and_then (decode_list (decode e) m x.rest) (λ y. some (decoded (more x.tree y.tree) y.rest))) nothing)
+          → ◌≡◌ {A = Option Decoded} (cond b (and_then (decode_list (decode e) n x.rest) (λ y. Some (decoded (more x.tree y.tree) y.rest))) None)
+          (cond b (and_then (decode_list (decode e) m x.rest) (λ y. Some (decoded (more x.tree y.tree) y.rest))) None)
       member x s false ih = refl
-      member x s true ih = ap (λ o. and_then o (λ y. some (decoded (more x.tree y.tree) y.rest))) (ih (omega arith) (omega arith))
+      member x s true ih = ap (λ o. and_then o (λ y. Some (decoded (more x.tree y.tree) y.rest))) (ih (omega arith) (omega arith))
   enough (suc n) (suc m) (suc zero ∷ ts) l r = refl
   enough (suc n) (suc m) (suc (suc x) ∷ ts) l r = refl
 
--- The turns begin with neither 0 nor 1.
-abbrev pub NoTurn : List ℕ → Type 0
-NoTurn [] = Unit {0}
-NoTurn (zero ∷ ts) = ⊥
-NoTurn (suc zero ∷ ts) = ⊥
-NoTurn (suc (suc x) ∷ ts) = Unit {0}
-
 -- The codes of a tree that was read and of what is due after it.
-abbrev spelled : List Due → ℕ → Decoded → Maybe (List ℕ)
-spelled k c x = omap (λ w. spells x.tree ++ w) (along k (c + length (spells x.tree)) x.rest)
+abbrev spelled : List Due → ℕ → Decoded → Option (List ℕ)
+spelled k c x = option_map (λ w. spells x.tree ++ w) (along k (c + length (spells x.tree)) x.rest)
 
 module _ (k : List Due) (c : ℕ) where
   -- What is due once enough letters are passed.
   pub along_paid : (o : ℕ) (e : Expr) (ts : List ℕ) → o ≤ c → along (due o e ∷ k) c ts ≡ and_then (decode e ts) (spelled k c)
   along_paid o e ts h = rw (le-ltb c o h)
 
-  pub along_owed : (o : ℕ) (e : Expr) (ts : List ℕ) → c < o → along (due o e ∷ k) c ts ≡ nothing
+  pub along_owed : (o : ℕ) (e : Expr) (ts : List ℕ) → c < o → along (due o e ∷ k) c ts ≡ None
   along_owed o e ts h = rw (lt-ltb c o h)
 
   pub along_free : (o : ℕ) (e : Expr) (ts : List ℕ) → o ≤ c → along (due o e ∷ k) c ts ≡ along (due 0 e ∷ k) c ts
   along_free o e ts h = along_paid o e ts h ∙ sym (along_paid 0 e ts (omega arith))
 
   -- A tree and then another, as one.
-  joined : (s : List ℕ) (a b : List ℕ) → omap (λ w. (a ++ b) ++ w) (along k (c + length (a ++ b)) s) ≡ omap (λ w. a ++ w) (omap (λ w. b ++ w) (along k ((c + length a) + length b) s))
+  joined : (s : List ℕ) (a b : List ℕ) → option_map (λ w. (a ++ b) ++ w) (along k (c + length (a ++ b)) s) ≡ option_map (λ w. a ++ w) (option_map (λ w. b ++ w) (along k ((c + length a) + length b) s))
   joined s a b =
       let n : c + length (a ++ b) ≡ (c + length a) + length b = omega (arith, length-append a b) in
       rw n (omap_append a b (along k ((c + length a) + length b) s))
@@ -80,12 +74,12 @@ module _ (k : List Due) (c : ℕ) where
 module _ (k : List Due) (c : ℕ) where
   -- A tree of f that follows the codes a, made part of a tree by g.
   then_due : (a : List ℕ) (o : ℕ) (f : Expr) (s : List ℕ) (g : Tree → Tree) → ((u : Tree) → spells (g u) ≡ a ++ spells u) → o ≤ c + length a
-      → and_then (and_then (decode f s) (λ y. some (decoded (g y.tree) y.rest))) (spelled k c) ≡ omap (λ w. a ++ w) (along (due o f ∷ k) (c + length a) s)
+      → and_then (and_then (decode f s) (λ y. Some (decoded (g y.tree) y.rest))) (spelled k c) ≡ option_map (λ w. a ++ w) (along (due o f ∷ k) (c + length a) s)
   then_due a o f s g same h = rw (along_paid k (c + length a) o f s h) (by (decode f s))
     where
-      by : (o : Maybe Decoded) → and_then (and_then o (λ y. some (decoded (g y.tree) y.rest))) (spelled k c) ≡ omap (λ w. a ++ w) (and_then o (spelled k (c + length a)))
-      by nothing = refl
-      by (some y) = rw same (joined k c y.rest a (spells y.tree))
+      by : (o : Option Decoded) → and_then (and_then o (λ y. Some (decoded (g y.tree) y.rest))) (spelled k c) ≡ option_map (λ w. a ++ w) (and_then o (spelled k (c + length a)))
+      by None = refl
+      by (Some y) = rw same (joined k c y.rest a (spells y.tree))
 
   -- What is due for a pair is due for its parts.
   pub along_pair : (e f : Expr) (ts : List ℕ) → along (due 0 (pair e f) ∷ k) c ts ≡ along (due 0 e ∷ (due 0 f ∷ k)) c ts
@@ -109,26 +103,22 @@ module _ (k : List Due) (c : ℕ) where
       ∙ sym (along_paid (due (c + 1) (star e) ∷ k) c 0 e ts (omega arith))
     where
       member : (x : Decoded) → length x.rest ≤ length ts → (a : List ℕ) → spells x.tree ≡ a
-          → and_then (cond (has_letters x.tree) (and_then (decode_list (decode e) (length ts) x.rest) (λ y. some (decoded (more x.tree y.tree) y.rest))) nothing) (spelled k c)
-          ≡ omap (λ w. spells x.tree ++ w) (along (due (c + 1) (star e) ∷ k) (c + length (spells x.tree)) x.rest)
+          → and_then (cond (has_letters x.tree) (and_then (decode_list (decode e) (length ts) x.rest) (λ y. Some (decoded (more x.tree y.tree) y.rest))) None) (spelled k c)
+          ≡ option_map (λ w. spells x.tree ++ w) (along (due (c + 1) (star e) ∷ k) (c + length (spells x.tree)) x.rest)
       member x s [] p = let h : c + 0 < c + 1 = omega arith in rw (p, along_owed k (c + 0) (c + 1) (star e) x.rest h)
       member x s (b ∷ a) p =
           let h : c + 1 ≤ c + length (spells x.tree) = omega (arith, ap length p) in
           let t : has_letters x.tree ≡ true = ap nonempty p in
           rw (t, enough e (length ts) (length x.rest) x.rest s (omega arith)) (then_due (spells x.tree) (c + 1) (star e) x.rest (more x.tree) (λ u. refl) h)
 
-  -- After 1 the list ends.
-  pub along_end : (e : Expr) (ts : List ℕ) → along (due 0 (star e) ∷ k) c (1 ∷ ts) ≡ along k c ts
-  along_end e ts = along_paid k c 0 (star e) (1 ∷ ts) (omega arith) ∙ omap_same (along k (c + 0) ts) ∙ ap (λ n. along k n ts) (add-zero c)
-
   -- Where neither 0 nor 1 comes there is no tree of an or, and none of a star.
-  pub along_no_or : (e f : Expr) (ts : List ℕ) → NoTurn ts → along (due 0 (or e f) ∷ k) c ts ≡ nothing
+  pub along_no_or : (e f : Expr) (ts : List ℕ) → NoTurn ts → along (due 0 (or e f) ∷ k) c ts ≡ None
   along_no_or e f [] n = along_paid k c 0 (or e f) [] (omega arith)
   along_no_or e f (zero ∷ ts) n = absurd n
   along_no_or e f (suc zero ∷ ts) n = absurd n
   along_no_or e f (suc (suc x) ∷ ts) n = along_paid k c 0 (or e f) (suc (suc x) ∷ ts) (omega arith)
 
-  pub along_no_star : (e : Expr) (ts : List ℕ) → NoTurn ts → along (due 0 (star e) ∷ k) c ts ≡ nothing
+  pub along_no_star : (e : Expr) (ts : List ℕ) → NoTurn ts → along (due 0 (star e) ∷ k) c ts ≡ None
   along_no_star e [] n = along_paid k c 0 (star e) [] (omega arith)
   along_no_star e (zero ∷ ts) n = absurd n
   along_no_star e (suc zero ∷ ts) n = absurd n

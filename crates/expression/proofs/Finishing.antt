@@ -1,10 +1,10 @@
 -- A place can finish letters exactly if the walk from it comes to their end.
-use Rattle.std.proofs.Common.{◌≡◌, ℕ, ◌+◌, Bool, true, false, cond, ◌&&◌, ◌||◌, eqb, List, [], ◌∷◌, ◌++◌, map, sym, refl, ap, ◌∙◌}
-use mathlib.Core.Option.{Option, some, none as nothing}
+use Rattle.std.proofs.Common.{◌≡◌, ℕ, ◌+◌, Bool, true, false, cond, ◌&&◌, ◌||◌, eqb, List, [], ◌∷◌, ◌++◌, map, sym, refl, ap, ◌∙◌, Some, None, Option, is_some}
+use Rattle.std.specs.Option.{option_map, option_or}
 use Rattle.expression.specs.Expressions.{Expr, letter, empty, pair, or, star, admits_empty}
 use Rattle.expression.specs.Trees.{Tree, left, right}
 use Rattle.expression.specs.Turns.{turns}
-use Rattle.expression.specs.Optional.{omap, or_else, lift2, is_some}
+use Rattle.expression.specs.Optional.{lift2}
 use Rattle.expression.specs.Members.{any, Each}
 use Rattle.expression.specs.Tuples.{turn_all}
 use Rattle.expression.specs.Search.{empty_tree, empty_trees, greedy}
@@ -13,18 +13,18 @@ use Rattle.expression.specs.Walks.{Stop, after, past, stops, all_stops, choose, 
 use Rattle.expression.proofs.Placing.{Right, place_right}
 use Rattle.expression.proofs.Walking.{walk_is}
 
-some_map : {A B : Type 0} (f : A → B) (x : Option A) → is_some (omap f x) ≡ is_some x
-some_map f nothing = refl
-some_map f (some x) = refl
+some_map : {A B : Type 0} (f : A → B) (x : Option A) → is_some (option_map f x) ≡ is_some x
+some_map f None = refl
+some_map f (Some x) = refl
 
-some_or : {A : Type 0} (x y : Option A) → is_some (or_else x y) ≡ is_some x || is_some y
-some_or nothing y = refl
-some_or (some x) y = refl
+some_or : {A : Type 0} (x y : Option A) → is_some (option_or x y) ≡ is_some x || is_some y
+some_or None y = refl
+some_or (Some x) y = refl
 
 some_lift : {A B C : Type 0} (f : A → B → C) (x : Option A) (y : Option B) → is_some (lift2 f x y) ≡ is_some x && is_some y
-some_lift f nothing y = refl
-some_lift f (some x) nothing = refl
-some_lift f (some x) (some y) = refl
+some_lift f None y = refl
+some_lift f (Some x) None = refl
+some_lift f (Some x) (Some y) = refl
 
 pub admits_is : (e : Expr) → admits_empty e ≡ is_some (empty_tree e)
 admits_is (letter a) = refl
@@ -50,8 +50,8 @@ places_after x [] = refl
 places_after x (s ∷ l) = ap (λ (r : List ℕ). s.place ∷ r) (places_after x l)
 
 places_past : (o : Option Tree) (l : List Stop) → places (past o l) ≡ cond (is_some o) (places l) []
-places_past nothing l = refl
-places_past (some t) l = places_after (turns t) l
+places_past None l = refl
+places_past (Some t) l = places_after (turns t) l
 
 heads_are : (o : ℕ) (e : Expr) (k : List Item) → heads o e ≡ places (stops o e k)
 heads_are o (letter a) k = refl
@@ -73,9 +73,9 @@ module _ (c : ℕ → List Item) (d : ℕ → ℕ) (a : ℕ) (g : ℕ → Bool) 
   any_chosen [] f = refl
   any_chosen (s ∷ l) f = rw (f.0.reads, same s.place, any_chosen l f.1) (one (eqb a s.letter) (H s.place) ∙ sym (some_or _ (chosen l)))
     where
-      one : (b : Bool) (o : Option (List ℕ)) → (b && is_some o) || is_some (chosen l) ≡ is_some (cond b (omap (λ r. s.turned ++ r) o) nothing) || is_some (chosen l)
-      one true nothing = refl
-      one true (some r) = refl
+      one : (b : Bool) (o : Option (List ℕ)) → (b && is_some o) || is_some (chosen l) ≡ is_some (cond b (option_map (λ r. s.turned ++ r) o) None) || is_some (chosen l)
+      one true None = refl
+      one true (Some r) = refl
       one false o = refl
 
 finishes_walks : (e : Expr) (w : List ℕ) (p : ℕ) → finishes e w p ≡ is_some (walk e w p)

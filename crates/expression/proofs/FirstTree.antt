@@ -1,6 +1,5 @@
 -- The first tree of a word: it is found, and there is at most one.
-use Rattle.std.proofs.Common.{◌≡◌, ℕ, ◌⊎◌, List, [], ◌∷◌, sym, refl, ap, ◌∙◌, subst, inl, inr, append-nil}
-use mathlib.Core.Option.{Option, some, none as nothing}
+use Rattle.std.proofs.Common.{◌≡◌, ℕ, ◌⊎◌, List, [], ◌∷◌, sym, refl, ap, ◌∙◌, subst, inl, inr, append-nil, Some, None, Option}
 use Rattle.expression.specs.Expressions.{Expr}
 use Rattle.expression.specs.Trees.{Tree, spells}
 use Rattle.expression.specs.Words.{Parse, Word}
@@ -31,10 +30,10 @@ first_tree_first e w =
     (image head (Parses (e ∷ []) w) (Parse e w) (head_parse w))
     (λ t s. (t ∷ [], one_parse w t s, refl))
 
-pub first_some : (e : Expr) (w : List ℕ) (t : Tree) → first_tree e w ≡ some t → First e w t
+pub first_some : (e : Expr) (w : List ℕ) (t : Tree) → first_tree e w ≡ Some t → First e w t
 first_some e w t p = let l = subst (FirstOf (Parse e w) (Before e)) p (first_tree_first e w) in record { parse = l.0; leads = l.1 }
 
-pub first_none : (e : Expr) (w : List ℕ) → first_tree e w ≡ nothing → Word e w → ⊥
+pub first_none : (e : Expr) (w : List ℕ) → first_tree e w ≡ None → Word e w → ⊥
 first_none e w p t = subst (FirstOf (Parse e w) (Before e)) p (first_tree_first e w) t.0 t.1
 
 pub first_unique : (e : Expr) (w : List ℕ) (t u : Tree) → First e w t → First e w u → t ≡ u
@@ -45,23 +44,23 @@ first_unique e w t u f g = go (f.leads u g.parse) (g.leads t f.parse)
     go (inr b) (inl p) = sym p
     go (inr b) (inr c) = absurd (asymmetric b c)
 
-pub some_first : (e : Expr) (w : List ℕ) (t : Tree) → First e w t → first_tree e w ≡ some t
+pub some_first : (e : Expr) (w : List ℕ) (t : Tree) → First e w t → first_tree e w ≡ Some t
 some_first e w t f = go (first_tree e w) refl
   where
-    go : (o : Option Tree) → first_tree e w ≡ o → first_tree e w ≡ some t
-    go nothing p = absurd (first_none e w p (t, f.parse))
-    go (some u) p = p ∙ ap {B = Option Tree} some (first_unique e w u t (first_some e w u p) f)
+    go : (o : Option Tree) → first_tree e w ≡ o → first_tree e w ≡ Some t
+    go None p = absurd (first_none e w p (t, f.parse))
+    go (Some u) p = p ∙ ap {B = Option Tree} Some (first_unique e w u t (first_some e w u p) f)
 
-pub none_first : (e : Expr) (w : List ℕ) → (Word e w → ⊥) → first_tree e w ≡ nothing
+pub none_first : (e : Expr) (w : List ℕ) → (Word e w → ⊥) → first_tree e w ≡ None
 none_first e w f = go (first_tree e w) refl
   where
-    go : (o : Option Tree) → first_tree e w ≡ o → first_tree e w ≡ nothing
-    go nothing p = p
-    go (some u) p = absurd (f (u, (first_some e w u p).parse))
+    go : (o : Option Tree) → first_tree e w ≡ o → first_tree e w ≡ None
+    go None p = p
+    go (Some u) p = absurd (f (u, (first_some e w u p).parse))
 
 pub word_first : (e : Expr) (w : List ℕ) → Word e w → (t : Tree) × First e w t
 word_first e w t = go (first_tree e w) refl
   where
     go : (o : Option Tree) → first_tree e w ≡ o → (t : Tree) × First e w t
-    go nothing p = absurd (first_none e w p t)
-    go (some u) p = (u, first_some e w u p)
+    go None p = absurd (first_none e w p t)
+    go (Some u) p = (u, first_some e w u p)

@@ -1,7 +1,8 @@
 -- The fields of checked nodes.
-use Rattle.std.proofs.Common.{◌≡◌, ℕ, zero, suc, ◌+◌, ◌-◌, ◌<◌, ◌≤◌, Bool, true, false, cond, eqb, ltb, List, length, take, Some, None, Option, sym, refl, ap, ◌∙◌, subst, add-zero, arith, ltb-true, ne_eqb}
+use Rattle.std.proofs.Common.{◌≡◌, ℕ, zero, suc, ◌+◌, ◌-◌, ◌<◌, ◌≤◌, Bool, true, false, cond, ◌&&◌, ◌||◌, eqb, ltb, List, length, take, Some, None, sym, refl, ap, ◌∙◌, subst, ap₂, add-zero, arith, ltb-true, ne_eqb}
 use borrow.Author.Tests.{eqb-false}
 use Rattle.std.proofs.lemmas.List.{length-take-le, get_or-take}
+use Rattle.std.specs.Option.{option_map}
 use Rattle.expression.specs.declared.node.Node.{Node}
 use Rattle.expression.specs.declared.node.Shape.{Shape}
 use Rattle.expression.specs.declared.node.Shape.TheVariants as shape
@@ -9,16 +10,12 @@ use Rattle.expression.specs.declared.raw.RawNode.{RawNode}
 use Rattle.expression.specs.declared.raw.RawNode.TheVariants.{Letter, Empty, Pair, Or, Star, Unknown}
 use Rattle.expression.specs.Fitted.{Two, One, Shaped, letters_to, Fitted}
 use Rattle.expression.specs.Tables.{letter_count}
-use Rattle.expression.specs.Making.{letters_of, leaf, over, over_two, next_node, Laid}
-use Rattle.expression.specs.Nodes.{admits_by, raw_shape, no_node, node, last, raw_of}
+use Rattle.expression.specs.Making.{letters_of, leaf, over, last_one, last_two, next_node, Laid}
+use Rattle.expression.specs.Nodes.{admits_at, admits_by, raw_shape, no_node, node, last, raw_of}
 
 when : {A : Type 0} (b : Bool) (x y : A) → cond b (Some x) None ≡ Some y → (b ≡ true) × (x ≡ y)
 when true x y e = (refl, cc)
 when false x y e = let z : ◌≡◌ {A = ℕ} 0 1 = cc in absurd (omega arith)
-
-unless : {A : Type 0} (b : Bool) (o : Option A) (y : A) → cond b None o ≡ Some y → (b ≡ false) × (o ≡ Some y)
-unless true o y e = let z : ◌≡◌ {A = ℕ} 0 1 = cc in absurd (omega arith)
-unless false o y e = (refl, e)
 
 some_is : {A : Type 0} (x y : A) → Some x ≡ Some y → x ≡ y
 some_is x y e = cc
@@ -27,29 +24,39 @@ pub pos : (n : ℕ) → eqb n 0 ≡ false → 0 < n
 pos n e = let d = eqb-false n 0 e in omega (arith, d)
 
 -- What a checked node was made of, by its raw form.
-abbrev MadeTwo : List Node → Shape → Node → Type 0
-MadeTwo ns s n = (0 < length ns) × (0 < (node ns (last ns)).start) × (over ns s ((node ns (last ns)).start - 1) ≡ n)
+abbrev MadeTwo : List Node → (ℕ → ℕ → Shape) → Node → Type 0
+MadeTwo ns s n = (0 < length ns) × (0 < (node ns (last ns)).start) × (over ns (s ((node ns (last ns)).start - 1) (last ns)) ((node ns (last ns)).start - 1) ≡ n)
 
 abbrev pub Made : List Node → RawNode → Node → Type 0
-Made ns (Letter c) n = (letters_of ns < 128) × (leaf ns shape.Letter c (letters_of ns + 1) ≡ n)
-Made ns Empty n = leaf ns shape.Empty 0 (letters_of ns) ≡ n
+Made ns (Letter c) n = (letters_of ns < 128) × (leaf ns (shape.Letter c) (letters_of ns + 1) ≡ n)
+Made ns Empty n = leaf ns shape.Empty (letters_of ns) ≡ n
 Made ns Pair n = MadeTwo ns shape.Pair n
 Made ns Or n = MadeTwo ns shape.Or n
-Made ns Star n = (0 < length ns) × (over ns shape.Star (last ns) ≡ n)
+Made ns Star n = (0 < length ns) × (over ns (shape.Star (last ns)) (last ns) ≡ n)
 Made ns (Unknown k) n = ⊥
 
-made_two : (ns : List Node) (s : Shape) (n : Node) → over_two ns s ≡ Some n → MadeTwo ns s n
-made_two ns s n e =
-    let t = unless (eqb (length ns) 0) _ n e in
-    let u = unless (eqb (node ns (last ns)).start 0) _ n t.1 in
-    (pos _ t.0, pos _ u.0, some_is _ _ u.1)
+made_one : (ns : List Node) (n : Node) → option_map (λ j. over ns (shape.Star j) j) (last_one ns) ≡ Some n → Made ns Star n
+made_one ns n e = by (eqb (length ns) 0) refl e
+  where
+    by : (b : Bool) → eqb (length ns) 0 ≡ b → option_map (λ j. over ns (shape.Star j) j) (cond b None (Some (last ns))) ≡ Some n → Made ns Star n
+    by true p q = let z : ◌≡◌ {A = ℕ} 0 1 = cc in absurd (omega arith)
+    by false p q = (pos _ p, some_is _ _ q)
+
+made_two : (ns : List Node) (s : ℕ → ℕ → Shape) (n : Node) → option_map (λ (p : ℕ × ℕ). over ns (s p.0 p.1) p.0) (last_two ns) ≡ Some n → MadeTwo ns s n
+made_two ns s n e = by (eqb (length ns) 0) (eqb (node ns (last ns)).start 0) refl refl e
+  where
+    by : (b d : Bool) → eqb (length ns) 0 ≡ b → eqb (node ns (last ns)).start 0 ≡ d
+        → option_map (λ (p : ℕ × ℕ). over ns (s p.0 p.1) p.0) (cond b None (cond d None (Some ((node ns (last ns)).start - 1, last ns)))) ≡ Some n → MadeTwo ns s n
+    by true d p q r = let z : ◌≡◌ {A = ℕ} 0 1 = cc in absurd (omega arith)
+    by false true p q r = let z : ◌≡◌ {A = ℕ} 0 1 = cc in absurd (omega arith)
+    by false false p q r = (pos _ p, pos _ q, some_is _ _ r)
 
 pub made : (ns : List Node) (r : RawNode) (n : Node) → next_node ns r ≡ Some n → Made ns r n
 made ns (Letter c) n e = let t = when (ltb (letters_of ns) 128) _ n e in (ltb-true _ _ t.0, t.1)
 made ns Empty n e = some_is _ _ e
 made ns Pair n e = made_two ns shape.Pair n e
 made ns Or n e = made_two ns shape.Or n e
-made ns Star n e = let t = unless (eqb (length ns) 0) _ n e in (pos _ t.0, some_is _ _ t.1)
+made ns Star n e = made_one ns n e
 made ns (Unknown k) n e = let z : ◌≡◌ {A = ℕ} 0 1 = cc in absurd (omega arith)
 
 pub raw_made : (ns : List Node) (r : RawNode) (n : Node) → Made ns r n → raw_of n ≡ r
@@ -81,39 +88,42 @@ module _ (xs ns : List Node) (i : ℕ) (long : length xs ≡ i) (same : (j : ℕ
   counted : letters_of xs ≡ letters_to ns i
   counted = letters_at xs ns i long same
 
-  fits_leaf : (s : Shape) (c k : ℕ) → (length xs ≡ i → Shaped ns i (leaf xs s c k) s) → admits_by s false false ≡ admits_by s (node ns 0).admits (node ns 0).admits → k ≡ letters_to ns i + letter_count (raw_shape c s) → k ≤ 128 → Fitted ns i (leaf xs s c k)
-  fits_leaf s c k shapes by count small = record { shaped = shapes long; low = omega arith; admits = by; letters = count; few = small }
+  fits_leaf : (s : Shape) (k : ℕ) → (length xs ≡ i → Shaped ns i (leaf xs s k) s) → admits_by (admits_at xs) s ≡ admits_by (admits_at ns) s → k ≡ letters_to ns i + letter_count (raw_shape s) → k ≤ 128 → Fitted ns i (leaf xs s k)
+  fits_leaf s k shapes by count small = record { shaped = shapes long; low = omega arith; admits = by; letters = count; few = small }
 
-  fits_over : (s : Shape) (j : ℕ) → 0 < i → j < i → Shaped ns i (over xs s j) s → letter_count (raw_shape 0 s) ≡ 0 → Fitted ns i (over xs s j)
-  fits_over s j p l sh none =
-      let k : last xs < i = omega arith in
+  fits_over : (s : Shape) (j : ℕ) → j < i → Shaped ns i (over xs s j) s → admits_by (admits_at xs) s ≡ admits_by (admits_at ns) s → letter_count (raw_shape s) ≡ 0 → Fitted ns i (over xs s j)
+  fits_over s j l sh by none =
       let d = low j l in
       record {
         shaped = sh;
         low = rw same (omega arith);
-        admits = rw (same j l, same (last xs) k);
+        admits = by;
         letters = rw none (counted ∙ sym (add-zero _));
         few = omega (arith, counted);
       }
 
-  fits_two : (s : Shape) (n : Node) → ((x : Node) → Two ns i x → Shaped ns i x s) → letter_count (raw_shape 0 s) ≡ 0 → MadeTwo xs s n → Fitted ns i n
-  fits_two s n shapes none m =
+  fits_two : (s : ℕ → ℕ → Shape) (n : Node) → ((j k : ℕ) (x : Node) → Two ns i x j k → Shaped ns i x (s j k))
+      → ((j k : ℕ) → admits_at xs j ≡ admits_at ns j → admits_at xs k ≡ admits_at ns k → admits_by (admits_at xs) (s j k) ≡ admits_by (admits_at ns) (s j k))
+      → ((j k : ℕ) → letter_count (raw_shape (s j k)) ≡ 0) → MadeTwo xs s n → Fitted ns i n
+  fits_two s n shapes by none m =
       let k : last xs < i = omega arith in
       let e = ap (λ x. x.start) (same (last xs) k) in
       let d = low (last xs) k in
-      let f : (node xs (last xs)).start - 1 < i = omega arith in
-      let t : Two ns i (over xs s ((node xs (last xs)).start - 1)) = record { second = omega arith; first = omega arith; start = ap (λ x. x.start) (same _ f) } in
-      subst (Fitted ns i) m.2 (fits_over s _ (omega arith) f (shapes _ t) none)
+      let j = (node xs (last xs)).start - 1 in
+      let f : j < i = omega arith in
+      let t : Two ns i (over xs (s j (last xs)) j) j (last xs) = record { second = omega arith; first = omega arith; start = ap (λ x. x.start) (same j f) } in
+      subst (Fitted ns i) m.2
+      (fits_over (s j (last xs)) j f (shapes j (last xs) _ t) (by j (last xs) (ap (λ x. x.admits) (same j f)) (ap (λ x. x.admits) (same (last xs) k))) (none j (last xs)))
 
   pub fits_made : (r : RawNode) (n : Node) → Made xs r n → Fitted ns i n
-  fits_made (Letter c) n m = subst (Fitted ns i) m.1 (fits_leaf shape.Letter c _ (λ e. e) refl (ap (λ k. k + 1) counted) (omega (arith, m.0)))
-  fits_made Empty n m = subst (Fitted ns i) m (fits_leaf shape.Empty 0 _ (λ e. e) refl (counted ∙ sym (add-zero _)) (omega (arith, counted)))
-  fits_made Pair n m = fits_two shape.Pair n (λ x t. t) refl m
-  fits_made Or n m = fits_two shape.Or n (λ x t. t) refl m
+  fits_made (Letter c) n m = subst (Fitted ns i) m.1 (fits_leaf (shape.Letter c) _ (λ e. e) refl (ap (λ k. k + 1) counted) (omega (arith, m.0)))
+  fits_made Empty n m = subst (Fitted ns i) m (fits_leaf shape.Empty _ (λ e. e) refl (counted ∙ sym (add-zero _)) (omega (arith, counted)))
+  fits_made Pair n m = fits_two shape.Pair n (λ j k x t. t) (λ j k p q. ap₂ ◌&&◌ p q) (λ j k. refl) m
+  fits_made Or n m = fits_two shape.Or n (λ j k x t. t) (λ j k p q. ap₂ ◌||◌ p q) (λ j k. refl) m
   fits_made Star n m =
       let k : last xs < i = omega arith in
-      let t : One ns i (over xs shape.Star (last xs)) = record { second = omega arith; first = omega arith; start = ap (λ x. x.start) (same (last xs) k) } in
-      subst (Fitted ns i) m.1 (fits_over shape.Star _ (omega arith) k t refl)
+      let t : One ns i (over xs (shape.Star (last xs)) (last xs)) (last xs) = record { child = omega arith; start = ap (λ x. x.start) (same (last xs) k) } in
+      subst (Fitted ns i) m.1 (fits_over (shape.Star (last xs)) (last xs) k t refl refl)
   fits_made (Unknown k) n m = absurd m
 
 -- Each node of a checked table fits.

@@ -1,12 +1,11 @@
 -- The greedy search finds the first trees that spell a word.
-use Rattle.std.proofs.Common.{◌≡◌, ℕ, Bool, true, false, cond, eqb, ◌⊎◌, List, [], ◌∷◌, sym, refl, inl, inr, eqb-true}
-use mathlib.Core.Option.{Option, none as nothing}
+use Rattle.std.proofs.Common.{◌≡◌, ℕ, Bool, true, false, cond, eqb, ◌⊎◌, List, [], ◌∷◌, sym, refl, inl, inr, eqb-true, None, Option}
+use Rattle.std.specs.Option.{option_map}
 use borrow.Author.Tests.{clash, eqb-false}
 use Rattle.expression.specs.Expressions.{Expr, letter, empty, pair, or, star}
 use Rattle.expression.specs.Trees.{Tree, leaf, both, left, right, more, is_leaf, is_unit, spells, has_letters}
 use Rattle.expression.specs.Words.{Parse}
 use Rattle.expression.specs.Order.{Before}
-use Rattle.expression.specs.Optional.{omap}
 use Rattle.expression.specs.Tuples.{TreesOf, is_nil, is_cons, spell_all, Parses, Lex, here, there, on_first, merge}
 use Rattle.expression.specs.Search.{empty_tree, enter, scan, greedy, FirstOf}
 use Rattle.expression.specs.Routes.{Begins, begins}
@@ -17,7 +16,7 @@ use Rattle.expression.proofs.EmptyTrees.{empty_tree_first, pass, empty_trees_fir
 use Rattle.expression.proofs.Beginnings.{to_first, to_second, from_pair, to_left, to_right, from_or, to_member, from_star, first_order, second_order, left_order, right_order, first_then_second, passed_order, left_then_right, member_order}
 
 module _ (a : ℕ) (w : List ℕ) (G : List Expr → Option (List Tree)) (best : (k : List Expr) → FirstOf (Parses k w) (Lex k) (G k)) where
-  letter_first : (b : ℕ) (k : List Expr) (c : Bool) → eqb a b ≡ c → FirstOf (Begins (letter b) k (a ∷ w)) (Lex (letter b ∷ k)) (cond c (omap (λ u. leaf b ∷ u) (G k)) nothing)
+  letter_first : (b : ℕ) (k : List Expr) (c : Bool) → eqb a b ≡ c → FirstOf (Begins (letter b) k (a ∷ w)) (Lex (letter b ∷ k)) (cond c (option_map (λ u. leaf b ∷ u) (G k)) None)
   letter_first b k true q =
       first_iff _ _ _ _ (first_map (Parses k w) (Lex k) (Lex (letter b ∷ k)) (λ u. leaf b ∷ u) (G k) (best k) (λ u u' s s' l. there refl l))
       (image (λ u. leaf b ∷ u) (Parses k w) (Begins (letter b) k (a ∷ w)) (λ u s. let e = eqb-true a b q in let o = s.spelt in begins is_leaf refl s.are (cc)))

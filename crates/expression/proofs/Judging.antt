@@ -1,20 +1,22 @@
 -- The verdict on a table, from the check of its nodes.
-use Rattle.std.proofs.Common.{◌≡◌, ℕ, zero, suc, ◌-◌, ◌<◌, ◌≤◌, Bool, ◌⊎◌, List, map, length, get_or, sym, refl, ap, ◌∙◌, subst, inl, inr, arith}
+use Rattle.std.proofs.Common.{◌≡◌, ℕ, zero, suc, ◌-◌, ◌<◌, ◌≤◌, Bool, ◌⊎◌, List, map, length, get_or, sym, refl, ap, ◌∙◌, subst, inl, inr, arith, Ok, Err, Result}
 use native.Mathlib.Decide.{dec_lt}
+use Rattle.std.specs.List.{position}
+use Rattle.std.specs.Option.{unwrap_or}
 use Rattle.std.proofs.lemmas.List.{ext_get_or, get_or-map, get_or_past, get_or_read, length-map}
 use Rattle.expression.specs.declared.fault.TableFault.{TableFault}
 use Rattle.expression.specs.declared.fault.TableFault.TheVariants as fault
 use Rattle.expression.specs.declared.node.Node.{Node}
 use Rattle.expression.specs.declared.raw.RawNode.{RawNode}
 use Rattle.expression.specs.declared.raw.RawNode.TheVariants.{Letter, Unknown}
-use Rattle.expression.specs.Checking.{Outcome, laid, stuck, lay, Told, FirstMute}
+use Rattle.expression.specs.Checking.{lay, Told, mute}
 use Rattle.expression.specs.Expressions.{Expr}
 use Rattle.expression.specs.Nodes.{no_node, node, last, raw_of, expr_at}
 use Rattle.expression.specs.Tables.{raw, letters_below, letter_count, Part, Denotes, Faulty, BreaksAt}
-use Rattle.expression.specs.Verdicts.{Good, Sized, Faults}
+use Rattle.expression.specs.Verdicts.{Good, Sized, Faults, OneVerdict}
 use Rattle.expression.proofs.Fitting.{few_to, fitted}
 use Rattle.expression.proofs.Laying.{Sound, sound_at, stuck_at}
-use Rattle.expression.proofs.Muting.{first_mute}
+use Rattle.expression.proofs.Muting.{FirstMute, first_mute}
 use Rattle.expression.proofs.Parts.{inside, same_part}
 use Rattle.expression.proofs.Standing.{letters_same, part_at, stands}
 
@@ -37,15 +39,15 @@ read_start ns i x h e = ap (λ y. y.start) (sym (get_or_read ns i x h e no_node)
 
 -- The verdict on a table whose first node without a letter is m.
 module _ (give : ℕ → Bool) (ts : List RawNode) (m : ℕ) (first : FirstMute give ts m) (sized : Sized ts) where
-  clear_below : (ns : List Node) → lay ts m ≡ laid ns → (j : ℕ) → j < m → BreaksAt give ts j → ⊥
+  clear_below : (ns : List Node) → lay ts m ≡ Ok ns → (j : ℕ) → j < m → BreaksAt give ts j → ⊥
   clear_below ns e j h b = (sound_at ts m ns e).clear give first.before j h b.1
 
-  pub stuck_breaks : (i : ℕ) → lay ts m ≡ stuck i → Faults give ts (fault.Breaks i)
+  pub stuck_breaks : (i : ℕ) → lay ts m ≡ Err i → Faults give ts (fault.Breaks i)
   stuck_breaks i e =
       let s = stuck_at ts m i e in
       (sized, (omega (arith, s.below, first.within), s.faulty give), λ j h b. s.clear give (λ k c l. first.before k c (omega (arith, s.below))) j h b.1)
 
-  pub mute_breaks : (ns : List Node) → lay ts m ≡ laid ns → m < length ts → Faults give ts (fault.Breaks m)
+  pub mute_breaks : (ns : List Node) → lay ts m ≡ Ok ns → m < length ts → Faults give ts (fault.Breaks m)
   mute_breaks ns e h =
       let t = first.mute h in
       (sized, (h, subst (Faulty give ts m) (sym t.1) (inl t.2)), clear_below ns e)
@@ -57,7 +59,7 @@ module _ (give : ℕ → Bool) (ts : List RawNode) (m : ℕ) (first : FirstMute 
   told (fault.Unfinished n) t = absurd t
   told fault.NoMemory t = inl refl
 
-  module _ (ns : List Node) (e : lay ts m ≡ laid ns) (all : length ts ≤ m) where
+  module _ (ns : List Node) (e : lay ts m ≡ Ok ns) (all : length ts ≤ m) where
     pub sound : Sound ts (length ts) ns
     sound = let z : m ≡ length ts = omega (arith, first.within) in subst (λ k. Sound ts k ns) z (sound_at ts m ns e)
 
@@ -93,13 +95,13 @@ module _ (give : ℕ → Bool) (ts : List RawNode) where
   abbrev Verdict : Type 0
   Verdict = ((e : Expr) × Good give ts e) ⊎ ((f : TableFault) × Faults give ts f)
 
-  judge_whole : (m : ℕ) (first : FirstMute give ts m) (sized : Sized ts) (ns : List Node) → lay ts m ≡ laid ns → length ts ≤ m → (k : ℕ) → (node ns (length ts - 1)).start ≡ k → Verdict
+  judge_whole : (m : ℕ) (first : FirstMute give ts m) (sized : Sized ts) (ns : List Node) → lay ts m ≡ Ok ns → length ts ≤ m → (k : ℕ) → (node ns (length ts - 1)).start ≡ k → Verdict
   judge_whole m first sized ns e all zero z = inl (expr_at ns (last ns), good give ts m first sized ns e all z)
   judge_whole m first sized ns e all (suc k) z = inr (fault.Unfinished (length ts), unfinished give ts m first sized ns e all (λ y. omega arith))
 
-  judge_laid : (m : ℕ) (first : FirstMute give ts m) (sized : Sized ts) (o : Outcome) → lay ts m ≡ o → Verdict
-  judge_laid m first sized (stuck i) e = inr (fault.Breaks i, stuck_breaks give ts m first sized i e)
-  judge_laid m first sized (laid ns) e =
+  judge_laid : (m : ℕ) (first : FirstMute give ts m) (sized : Sized ts) (o : Result (List Node) ℕ) → lay ts m ≡ o → Verdict
+  judge_laid m first sized (Err i) e = inr (fault.Breaks i, stuck_breaks give ts m first sized i e)
+  judge_laid m first sized (Ok ns) e =
       elim (dec_lt m (length ts)) [
         | yes h ↦ inr (fault.Breaks m, mute_breaks give ts m first sized ns e h)
         | no f ↦ judge_whole m first sized ns e (omega (arith, f)) _ refl
@@ -110,7 +112,7 @@ module _ (give : ℕ → Bool) (ts : List RawNode) where
       elim (dec_lt 0 (length ts)) [
         | yes p ↦ elim (dec_lt 255 (length ts)) [
           | yes q ↦ inr (fault.TooLong, q)
-          | no f ↦ let t = first_mute give ts in judge_laid t.0 t.1 (p, omega (arith, f)) (lay ts t.0) refl
+          | no f ↦ let m = unwrap_or (position (mute give) ts) (length ts) in judge_laid m (first_mute give ts) (p, omega (arith, f)) (lay ts m) refl
         ]
         | no f ↦ inr (fault.Empty, omega (arith, f))
       ]
@@ -164,3 +166,11 @@ module _ (give : ℕ → Bool) (ts : List RawNode) where
   same_fault (fault.Unfinished n) (fault.Unfinished k) t u = ap fault.Unfinished (t.1 ∙ sym u.1)
   same_fault (fault.Unfinished n) fault.NoMemory t u = absurd u
   same_fault fault.NoMemory g t u = absurd t
+
+pub one_verdict : OneVerdict
+one_verdict give ns = record {
+  verdict = verdict give ns;
+  apart = apart give ns;
+  one_good = λ e e' g g'. (same_part ns g.denotes g'.denotes).1;
+  one_fault = same_fault give ns;
+}

@@ -1,7 +1,7 @@
 -- The check of a table, node by node: the nodes that it lays, or the first that breaks.
-use Rattle.std.proofs.Common.{◌≡◌, ℕ, zero, suc, ◌-◌, ◌<◌, ◌≤◌, Bool, true, false, cond, eqb, ltb, ◌⊎◌, List, [], ◌∷◌, ◌++◌, length, get_or, take, Some, None, Err, Option, Result, sym, refl, ap, ◌∙◌, subst, inl, inr, ⊎_elim, arith, ltb-false, eqb-true}
+use Rattle.std.proofs.Common.{◌≡◌, ℕ, zero, suc, ◌-◌, ◌<◌, ◌≤◌, Bool, true, false, cond, eqb, ltb, ◌⊎◌, List, [], ◌∷◌, ◌++◌, length, get_or, take, Some, None, Err, Option, Result, sym, refl, ap, ◌∙◌, subst, inl, inr, arith, ltb-false, eqb-true, Ok}
 use Rattle.std.proofs.lemmas.List.{length_push, get_or_append_left, get_or_default, get_or_push, take-append-le, take_at}
-use Rattle.std.specs.Option.{ok_or}
+use Rattle.std.specs.Option.{ok_or, option_map}
 use Rattle.expression.specs.declared.fault.TableFault.{TableFault}
 use Rattle.expression.specs.declared.fault.TableFault.TheVariants as fault
 use Rattle.expression.specs.declared.node.Node.{Node}
@@ -9,8 +9,8 @@ use Rattle.expression.specs.declared.node.Shape.{Shape}
 use Rattle.expression.specs.declared.node.Shape.TheVariants as shape
 use Rattle.expression.specs.declared.raw.RawNode.{RawNode}
 use Rattle.expression.specs.declared.raw.RawNode.TheVariants.{Letter, Empty, Pair, Or, Star, Unknown}
-use Rattle.expression.specs.Checking.{Outcome, laid, stuck, put, lay_on, lay, Told}
-use Rattle.expression.specs.Making.{letters_of, over_two, next_node, Laid}
+use Rattle.expression.specs.Checking.{put, lay_on, lay, Told}
+use Rattle.expression.specs.Making.{letters_of, over, last_one, last_two, next_node, Laid}
 use Rattle.expression.specs.Nodes.{no_node, node, last, raw_of}
 use Rattle.expression.specs.Tables.{raw, letters_below, OneEnds, TwoEnd, Faulty}
 use Rattle.expression.proofs.Fitting.{pos, Made, made, raw_made, letters_at, fitted}
@@ -38,9 +38,9 @@ pub record Stuck (ts : List RawNode) (n i : ℕ) : Type 0 where
   pub faulty : (gives : ℕ → Bool) → Faulty gives ts i (raw ts i)
   pub clear : Clear ts i
 
-abbrev pub Tells : List RawNode → ℕ → Outcome → Type 0
-Tells ts n (laid ns) = Sound ts n ns
-Tells ts n (stuck i) = Stuck ts n i
+abbrev pub Tells : List RawNode → ℕ → Result (List Node) ℕ → Type 0
+Tells ts n (Ok ns) = Sound ts n ns
+Tells ts n (Err i) = Stuck ts n i
 
 -- One more node.
 module _ (ns : List Node) (n : Node) where
@@ -70,10 +70,6 @@ none_is x e = let z : ◌≡◌ {A = ℕ} 0 1 = cc in omega arith
 when_none : {A : Type 0} (b : Bool) (x : A) → cond b (Some x) None ≡ None → b ≡ false
 when_none true x e = absurd (none_is x e)
 when_none false x e = refl
-
-unless_none : {A : Type 0} (b : Bool) (o : Option A) → cond b None o ≡ None → (b ≡ true) ⊎ ((b ≡ false) × (o ≡ None))
-unless_none true o e = inl refl
-unless_none false o e = inr (refl, e)
 
 not_both : (b : Bool) → b ≡ true → b ≡ false → ⊥
 not_both b p q = let z : ◌≡◌ {A = ℕ} 0 1 = cc in omega arith
@@ -109,19 +105,30 @@ module _ (ts : List RawNode) (ns : List Node) (n : ℕ) (s : Sound ts n ns) wher
   whole gives Star x l m f = f (one m.0)
   whole gives (Unknown k) x l m f = m
 
-  missing : (sh : Shape) → over_two ns sh ≡ None → (length ns ≡ 0) ⊎ ((0 < length ns) × ((node ns (last ns)).start ≡ 0))
-  missing sh e =
-      ⊎_elim (λ t. inl (eqb-true _ _ t))
-      (λ u. ⊎_elim (λ t. inr (pos _ u.0, eqb-true _ _ t)) (λ v. absurd (none_is _ v.1)) (unless_none (eqb (node ns (last ns)).start 0) _ u.1))
-      (unless_none (eqb (length ns) 0) _ e)
+  missing_one : option_map (λ j. over ns (shape.Star j) j) (last_one ns) ≡ None → length ns ≡ 0
+  missing_one e = by (eqb (length ns) 0) refl e
+    where
+      by : (b : Bool) → eqb (length ns) 0 ≡ b → option_map (λ j. over ns (shape.Star j) j) (cond b None (Some (last ns))) ≡ None → length ns ≡ 0
+      by true p q = eqb-true _ _ p
+      by false p q = absurd (none_is _ q)
+
+  missing_two : (sh : ℕ → ℕ → Shape) → option_map (λ (p : ℕ × ℕ). over ns (sh p.0 p.1) p.0) (last_two ns) ≡ None → (length ns ≡ 0) ⊎ ((0 < length ns) × ((node ns (last ns)).start ≡ 0))
+  missing_two sh e = by (eqb (length ns) 0) (eqb (node ns (last ns)).start 0) refl refl e
+    where
+      by : (b d : Bool) → eqb (length ns) 0 ≡ b → eqb (node ns (last ns)).start 0 ≡ d
+          → option_map (λ (p : ℕ × ℕ). over ns (sh p.0 p.1) p.0) (cond b None (cond d None (Some ((node ns (last ns)).start - 1, last ns)))) ≡ None
+          → (length ns ≡ 0) ⊎ ((0 < length ns) × ((node ns (last ns)).start ≡ 0))
+      by true d p q r = inl (eqb-true _ _ p)
+      by false true p q r = inr (pos _ p, eqb-true _ _ q)
+      by false false p q r = absurd (none_is _ r)
 
   -- One that is not made breaks.
   broken : (gives : ℕ → Bool) (r : RawNode) → next_node ns r ≡ None → Faulty gives ts n r
   broken gives (Letter c) e = inr (let t = ltb-false _ _ (when_none (ltb (letters_of ns) 128) _ e) in omega (arith, counted))
   broken gives Empty e = none_is _ e
-  broken gives Pair e = no_two (missing shape.Pair e)
-  broken gives Or e = no_two (missing shape.Or e)
-  broken gives Star e = ⊎_elim (λ t. no_one (eqb-true _ _ t)) (λ u. absurd (none_is _ u.1)) (unless_none (eqb (length ns) 0) _ e)
+  broken gives Pair e = no_two (missing_two shape.Pair e)
+  broken gives Or e = no_two (missing_two shape.Or e)
+  broken gives Star e = no_one (missing_one e)
   broken gives (Unknown k) e = tt
 
   tells_put : (o : Option Node) → next_node ns (raw ts n) ≡ o → Tells ts (suc n) (put ns n o)
@@ -139,19 +146,19 @@ module _ (ts : List RawNode) (ns : List Node) (n : ℕ) (s : Sound ts n ns) wher
   tells_put None e = record { below = omega arith; faulty = λ gives. broken gives (raw ts n) e; clear = s.clear }
 
 module _ (ts : List RawNode) where
-  tells_on : (n : ℕ) (o : Outcome) → Tells ts n o → Tells ts (suc n) (lay_on n (raw ts n) o)
-  tells_on n (laid ns) s = tells_put ts ns n s (next_node ns (raw ts n)) refl
-  tells_on n (stuck i) s = record { below = omega (arith, s.below); faulty = s.faulty; clear = s.clear }
+  tells_on : (n : ℕ) (o : Result (List Node) ℕ) → Tells ts n o → Tells ts (suc n) (lay_on n (raw ts n) o)
+  tells_on n (Ok ns) s = tells_put ts ns n s (next_node ns (raw ts n)) refl
+  tells_on n (Err i) s = record { below = omega (arith, s.below); faulty = s.faulty; clear = s.clear }
 
   -- What the check of the nodes below n tells of them.
   pub lay_tells : (n : ℕ) → Tells ts n (lay ts n)
   lay_tells zero = record { long = refl; fits = λ i h. absurd (omega arith); agree = λ i h. absurd (omega arith); clear = λ gives l j h. absurd (omega arith) }
   lay_tells (suc n) = tells_on n (lay ts n) (lay_tells n)
 
-  pub sound_at : (n : ℕ) (ns : List Node) → lay ts n ≡ laid ns → Sound ts n ns
+  pub sound_at : (n : ℕ) (ns : List Node) → lay ts n ≡ Ok ns → Sound ts n ns
   sound_at n ns e = subst (Tells ts n) e (lay_tells n)
 
-  pub stuck_at : (n i : ℕ) → lay ts n ≡ stuck i → Stuck ts n i
+  pub stuck_at : (n i : ℕ) → lay ts n ≡ Err i → Stuck ts n i
   stuck_at n i e = subst (Tells ts n) e (lay_tells n)
 
 -- The last step of the check of the nodes below n.
@@ -162,12 +169,9 @@ module _ (ts : List RawNode) (n : ℕ) (some : n ≡ 0 → ⊥) (within : n ≤ 
       let s : n ≡ suc (n - 1) = omega arith in
       ap (lay ts) s ∙ ap (λ r. lay_on (n - 1) r (lay ts (n - 1))) (get_or_default ts (n - 1) (Unknown 0) (Letter 0) l)
 
-  module _ (ns read : List Node) (o : Option Node) (e : lay ts (n - 1) ≡ laid ns) (same : read ≡ ns) (next : o ≡ next_node read (get_or ts (n - 1) (Letter 0))) where
+  module _ (ns read : List Node) (o : Option Node) (e : lay ts (n - 1) ≡ Ok ns) (same : read ≡ ns) (next : o ≡ next_node read (get_or ts (n - 1) (Letter 0))) where
     lay_put : lay ts n ≡ put ns (n - 1) o
     lay_put = lay_last ∙ rw e (ap (put ns (n - 1)) (sym (rw same at next)))
-
-    pub lay_more : (x : Node) (after : List Node) → o ≡ Some x → after ≡ ns ++ x ∷ [] → lay ts n ≡ laid after
-    lay_more x after f g = lay_put ∙ rw (f, g)
 
     pub lay_none : (f : TableFault) → o ≡ None → Err f ≡ ok_or o (fault.Breaks (n - 1)) → Told (lay ts n) f
     lay_none f p q =

@@ -3,6 +3,7 @@ use Rattle.std.proofs.Common.{◌≡◌, ℕ, suc, ◌<◌, ◌≤◌, Bool, Lis
 use native.Mathlib.Decide.{dec_lt}
 use Rattle.expression.specs.Expressions.{Expr, letter, empty, pair, or, star}
 use Rattle.expression.specs.Tables.{raw, Faulty, Part, part_letter, part_empty, part_pair, part_or, part_star}
+use Rattle.expression.specs.Verdicts.{OneExpression}
 use Rattle.expression.specs.declared.raw.RawNode.{RawNode}
 use Rattle.expression.specs.declared.raw.RawNode.TheVariants.{Letter, Empty, Pair, Or, Star, Unknown}
 
@@ -47,6 +48,9 @@ same_part ns (part_star p q) s =
     let t = rw q at (ending ns s) in
     let i = same_part ns p t.1 in
     (i.0, ap star i.1 ∙ sym t.2)
+
+pub one_expression : OneExpression
+one_expression ns a a' b e e' p q = same_part ns p q
 
 -- Cases on a number below another.
 pub last_or_below : (P : ℕ → Type 0) (n i : ℕ) → i < suc n → (i < n → P i) → P n → P i

@@ -1,7 +1,6 @@
 -- The stops after a place are at places with the continuation and the letter that the stop names.
-use Rattle.std.proofs.Common.{◌≡◌, ℕ, zero, suc, ◌+◌, ◌<◌, List, [], ◌∷◌, ◌++◌, map, length, get_or, sym, refl, ap, ◌∙◌, add-zero, add_assoc, arith, length-append, get_or-append-add}
+use Rattle.std.proofs.Common.{◌≡◌, ℕ, zero, suc, ◌+◌, ◌<◌, List, [], ◌∷◌, ◌++◌, map, length, get_or, sym, refl, ap, ◌∙◌, add-zero, add_assoc, arith, length-append, get_or-append-add, Some, None, Option}
 use Prim.{Unit, tt}
-use mathlib.Core.Option.{Option, some, none as nothing}
 use lib.ListN.{get_or-append}
 use Rattle.expression.specs.Expressions.{Expr, letter, empty, pair, or, star}
 use Rattle.expression.specs.Trees.{Tree}
@@ -36,8 +35,8 @@ module _ (c : ℕ → List Item) (d : ℕ → ℕ) where
   right_after ts (s ∷ l) f = (record { goes = f.0.goes; reads = f.0.reads }, right_after ts l f.1)
 
   right_past : (o : Option Tree) (l : List Stop) → Each Right l → Each Right (past o l)
-  right_past nothing l f = tt
-  right_past (some t) l f = right_after (turns t) l f
+  right_past None l f = tt
+  right_past (Some t) l f = right_after (turns t) l f
 
   stops_right : (o : ℕ) (e : Expr) (k : List Item) → Placed o e k → Each Right (stops o e k)
   stops_right o (letter a) k p = (record { goes = p.0; reads = p.1 }, tt)

@@ -6,7 +6,7 @@ use Rattle.expression.specs.declared.node.Shape.TheVariants.{Letter, Empty, Pair
 use Rattle.expression.specs.declared.raw.RawNode.{RawNode}
 use Rattle.expression.specs.Expressions.{Expr, admits_empty}
 use Rattle.expression.specs.Fitted.{Shaped, letters_to, Fitted}
-use Rattle.expression.specs.Nodes.{node, admits_by, raw_shape, raw_of, expr_by, expr_within, expr_at}
+use Rattle.expression.specs.Nodes.{node, admits_at, admits_by, raw_shape, raw_of, expr_by, expr_within, expr_at}
 use Rattle.expression.specs.Tables.{raw, letter_count, letters_below, Part, part_letter, part_empty, part_pair, part_or, part_star, OneEnds, TwoEnd}
 use Rattle.expression.proofs.Parts.{part_rises, same_part}
 
@@ -20,34 +20,34 @@ part_at ts {a} {a'} {b} {b'} {e} p q t = subst (λ k. Part ts a' k e) q (subst (
 
 module _ (ns : List Node) (ts : List RawNode) (fits : (i : ℕ) → i < length ns → Fitted ns i (node ns i))
     (agree : (i : ℕ) → i < length ns → raw ts i ≡ raw_of (node ns i)) where
-  stands_by : (i : ℕ) (n : Node) (s : Shape) → raw ts i ≡ raw_shape n.code s → Shaped ns i n s
-      → ((j : ℕ) → j < i → (node ns j).start ≤ j) → n.admits ≡ admits_by s (node ns n.first).admits (node ns n.second).admits
-      → (f : ℕ → Expr) → ((j : ℕ) → j < i → Ending ts j (node ns j) (f j)) → Ending ts i n (expr_by f n s)
-  stands_by i n Letter r sh low by f below = record { part = part_at ts (sym sh) refl (part_letter r); admits = by }
+  stands_by : (i : ℕ) (n : Node) (s : Shape) → raw ts i ≡ raw_shape s → Shaped ns i n s
+      → ((j : ℕ) → j < i → (node ns j).start ≤ j) → n.admits ≡ admits_by (admits_at ns) s
+      → (f : ℕ → Expr) → ((j : ℕ) → j < i → Ending ts j (node ns j) (f j)) → Ending ts i n (expr_by f s)
+  stands_by i n (Letter c) r sh low by f below = record { part = part_at ts (sym sh) refl (part_letter r); admits = by }
   stands_by i n Empty r sh low by f below = record { part = part_at ts (sym sh) refl (part_empty r); admits = by }
-  stands_by i n Pair r sh low by f below =
-      let l : n.second < i = omega arith in
-      let d = low n.second l in
-      let x = below n.first (omega arith) in
-      let y = below n.second l in
+  stands_by i n (Pair j k) r sh low by f below =
+      let l : k < i = omega (arith, sh.second) in
+      let d = low k l in
+      let x = below j (omega (arith, sh.first)) in
+      let y = below k l in
       record {
         part = part_pair (part_at ts (sym sh.start) sh.first x.part) (part_at ts refl sh.second y.part) r;
         admits = by ∙ ap₂ ◌&&◌ x.admits y.admits;
       }
-  stands_by i n Or r sh low by f below =
-      let l : n.second < i = omega arith in
-      let d = low n.second l in
-      let x = below n.first (omega arith) in
-      let y = below n.second l in
+  stands_by i n (Or j k) r sh low by f below =
+      let l : k < i = omega (arith, sh.second) in
+      let d = low k l in
+      let x = below j (omega (arith, sh.first)) in
+      let y = below k l in
       record {
         part = part_or (part_at ts (sym sh.start) sh.first x.part) (part_at ts refl sh.second y.part) r;
         admits = by ∙ ap₂ ◌||◌ x.admits y.admits;
       }
-  stands_by i n Star r sh low by f below =
-      let l : n.second < i = omega arith in
-      record { part = part_star (part_at ts (sym sh.start) sh.second (below n.second l).part) r; admits = by }
+  stands_by i n (Star j) r sh low by f below =
+      let l : j < i = omega (arith, sh.child) in
+      record { part = part_star (part_at ts (sym sh.start) sh.child (below j l).part) r; admits = by }
 
-  stands_on : (i : ℕ) → i < length ns → (f : ℕ → Expr) → ((j : ℕ) → j < i → Ending ts j (node ns j) (f j)) → Ending ts i (node ns i) (expr_by f (node ns i) (node ns i).shape)
+  stands_on : (i : ℕ) → i < length ns → (f : ℕ → Expr) → ((j : ℕ) → j < i → Ending ts j (node ns j) (f j)) → Ending ts i (node ns i) (expr_by f (node ns i).shape)
   stands_on i h f below =
       let t = fits i h in
       stands_by i (node ns i) (node ns i).shape (agree i h) t.shaped (λ j m. (fits j (omega arith)).low) t.admits f below
@@ -60,7 +60,7 @@ module _ (ns : List Node) (ts : List RawNode) (fits : (i : ℕ) → i < length n
   pub stands : (i : ℕ) → i < length ns → Ending ts i (node ns i) (expr_at ns i)
   stands i h = stands_below (suc i) i (omega arith) h
 
-  pub built : (i : ℕ) → i < length ns → expr_at ns i ≡ expr_by (expr_at ns) (node ns i) (node ns i).shape
+  pub built : (i : ℕ) → i < length ns → expr_at ns i ≡ expr_by (expr_at ns) (node ns i).shape
   built i h = (same_part ts (stands i h).part (stands_on i h (expr_at ns) (λ j m. stands j (omega arith))).part).1
 
   pub letters_same : (i : ℕ) → i ≤ length ns → letters_to ns i ≡ letters_below ts i

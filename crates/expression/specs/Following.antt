@@ -1,119 +1,73 @@
--- A walk along a layout: what is still to come of it, and what a step does. This serves the proofs only: Spelling says what turns spell.
-use Rattle.std.specs.Prelude.{◌≡◌, ℕ, zero, suc, ◌+◌, ◌-◌, ◌*◌, ◌<◌, ◌≤◌, Bool, true, false, cond, List, [], ◌∷◌, ◌++◌, length, drop, replicate, Some, None, Option, ◌==◌, nat_lt, slice_index, slice_set}
-use Rattle.std.proofs.Math.Option.{Option as Maybe, some, none as nothing}
+-- The steps of a walk along a layout. This serves the proofs only: Spelling says what turns spell.
+use Rattle.std.specs.Prelude.{◌≡◌, ℕ, zero, suc, ◌+◌, ◌*◌, ◌^◌, ◌<◌, ◌≤◌, Bool, if◌then◌else◌, List, [], ◌∷◌, length, reverse, Some, None, Ok, Err, Option, Result}
+use Rattle.std.specs.Option.{option_map}
+use Rattle.std.specs.Borrow.{Bor}
 use Rattle.expression.specs.declared.layout.Layout.{Layout}
-use Rattle.expression.specs.declared.node.Node.{Node}
-use Rattle.expression.specs.declared.walk.Step.{Step}
-use Rattle.expression.specs.declared.walk.Step.TheVariants.{Letter, On, Done, NoTree}
+use Rattle.expression.specs.declared.walk.NoTree.{NoTree}
 use Rattle.expression.specs.declared.walk.Walk.{Walk}
-use Rattle.expression.specs.Expressions.{Expr, letter, empty, pair, or, star}
-use Rattle.expression.specs.Layouts.{nodes_of}
-use Rattle.expression.specs.Nodes.{last, expr_at}
-use Rattle.expression.specs.Optional.{omap, and_then}
-use Rattle.expression.specs.Trees.{spells}
-use Rattle.expression.specs.Turns.{decode}
+use Rattle.expression.specs.Expressions.{Expr}
+use Rattle.expression.specs.Coming.{size, Due, due, along, dues, weight}
+use Rattle.expression.specs.Layouts.{nodes_of, expression_of}
+use Rattle.expression.specs.Nodes.{expr_at}
+use Rattle.expression.specs.Spelling.{codes}
 
--- The number of nodes that an expression takes.
-abbrev pub size : Expr → ℕ
-size (letter a) = 1
-size empty = 1
-size (pair e f) = suc (size e + size f)
-size (or e f) = suc (size e + size f)
-size (star e) = suc (size e)
-
--- An expression that is to come once a number of letters is passed.
-pub record Due : Type 0 where
-  pub owed : ℕ
-  pub expr : Expr
-
-abbrev pub due : ℕ → Expr → Due
-due o e = record { owed = o; expr = e }
-
--- The codes that turns spell along what is due, where c letters are passed; nothing if they are no trees of it.
-abbrev pub along : List Due → ℕ → List ℕ → Maybe (List ℕ)
-along [] c [] = some []
-along [] c (x ∷ ts) = nothing
-along (d ∷ k) c ts =
-    cond (nat_lt c d.owed) nothing
-    (and_then (decode d.expr ts) (λ x. omap (λ w. spells x.tree ++ w) (along k (c + length (spells x.tree)) x.rest)))
-
--- What is due, from the top of the stack down.
-abbrev pub dues : List Node → List ℕ → List ℕ → ℕ → List Due
-dues ns stack owed zero = []
-dues ns stack owed (suc h) = due (slice_index owed h) (expr_at ns (slice_index stack h)) ∷ dues ns stack owed h
-
-abbrev pub dues_of : Layout → Walk → List Due
-dues_of l w = dues (nodes_of l) w.stack w.owed w.height
+-- What is due, the next first.
+abbrev pub dues_of : Walk → List Due
+dues_of w = dues (nodes_of w.layout.now) (reverse w.pending.items)
 
 -- The codes that a walk has still to pass.
-abbrev pub to_come : Layout → List ℕ → Walk → Maybe (List ℕ)
-to_come l ts w = along (dues_of l w) w.letters (drop w.at ts)
-
-abbrev pub weight : List Due → ℕ
-weight [] = 0
-weight (d ∷ k) = size d.expr + weight k
+abbrev pub to_come : Walk → Option (List ℕ)
+to_come w = along (dues_of w) w.letters w.turns.now
 
 -- At most how many steps are to come: a turn that is taken adds less than 255.
-abbrev pub left : Layout → List ℕ → Walk → ℕ
-left l ts w = 255 * (length ts - w.at) + weight (dues_of l w)
+abbrev pub left : Walk → ℕ
+left w = 255 * length w.turns.now + weight (dues_of w)
 
--- A walk within bounds: each node to come stands in the layout, and its part fits on the stack from where it stands.
-pub record Bounded (l : Layout) (ts : List ℕ) (w : Walk) : Type 0 where
-  pub stack_long : length w.stack ≡ 255
-  pub owed_long : length w.owed ≡ 255
-  pub there : (h : ℕ) → h < w.height → slice_index w.stack h < length (nodes_of l)
-  pub room : (h : ℕ) → h < w.height → h + size (expr_at (nodes_of l) (slice_index w.stack h)) ≤ 255
-  pub taken : w.at ≤ length ts
+-- The expression of the node i of a walk's layout.
+abbrev pub expr_of : Walk → ℕ → Expr
+expr_of w i = expr_at (nodes_of w.layout.now) i
 
--- A walk that can go on. It never passes more than 255 letters for each turn and 255 before the first.
-pub record Ready (l : Layout) (ts : List ℕ) (w : Walk) : Type 0 where
-  pub bounded : Bounded l ts w
-  pub few : w.letters + left l ts w ≤ 255 * (length ts + 1)
+-- The codes to come once the node i is on top.
+abbrev pub to_come_by : Walk → ℕ → Option (List ℕ)
+to_come_by w i = along (due 0 (expr_of w i) ∷ dues_of w) w.letters w.turns.now
 
 -- A walk that can go on by visiting the node i.
-pub record Next (l : Layout) (ts : List ℕ) (w : Walk) (i : ℕ) : Type 0 where
-  pub bounded : Bounded l ts w
-  pub inside : i < length (nodes_of l)
-  pub fits : w.height + size (expr_at (nodes_of l) i) ≤ 255
-  pub few : w.letters + (size (expr_at (nodes_of l) i) + left l ts w) ≤ 255 * (length ts + 1)
+pub record Next (w : Walk) (i : ℕ) : Type 0 where
+  pub inside : i < length (nodes_of w.layout.now)
+  pub fits : length w.pending.items + size (expr_of w i) ≤ 255
+  pub small : w.letters + (size (expr_of w i) + left w) < 2 ^ 128
 
--- A node on top of a walk.
-abbrev pub pushed : Walk → ℕ → ℕ → Walk
-pushed w i o = record { stack = slice_set w.stack w.height i; owed = slice_set w.owed w.height o; height = w.height + 1; at = w.at; letters = w.letters }
+-- The turns begin with neither 0 nor 1.
+abbrev pub NoTurn : List ℕ → Type 0
+NoTurn [] = Unit {0}
+NoTurn (zero ∷ ts) = ⊥
+NoTurn (suc zero ∷ ts) = ⊥
+NoTurn (suc (suc x) ∷ ts) = Unit {0}
 
--- A walk at the start of a layout.
-abbrev pub start : Layout → Walk
-start l = pushed (record { stack = replicate 255 0; owed = replicate 255 0; height = 0; at = 0; letters = 0 }) (last (nodes_of l)) 0
+-- What the first turn tells, and the turns after it.
+abbrev pub Turned : List ℕ → Result (Bool × Bor (List ℕ)) NoTree → Type 0
+Turned ts (Ok p) = ts ≡ (if p.0 then 1 else 0) ∷ p.1.now
+Turned ts (Err e) = NoTurn ts
 
--- The turn at i: false for 0 and true for 1.
-abbrev pub turn_at : List ℕ → ℕ → Option Bool
-turn_at ts i = cond (nat_lt i (length ts)) (cond (slice_index ts i == 0) (Some false) (cond (slice_index ts i == 1) (Some true) None)) None
-
--- The codes to come before a step, from those after it.
-abbrev pub after : Step → Maybe (List ℕ) → Maybe (List ℕ)
-after (Letter c) o = omap (λ w. c ∷ w) o
-after On o = o
-after Done o = some []
-after NoTree o = nothing
-
--- The walk w' can go on, is after the walk w by n letters, and has less to do than m.
-pub record GoesOn (l : Layout) (ts : List ℕ) (w : Walk) (n m : ℕ) (w' : Walk) : Type 0 where
-  pub ready : Ready l ts w'
+-- The walk w' is after the walk w by n letters, and has less to do than m.
+pub record GoesOn (w : Walk) (n m : ℕ) (w' : Walk) : Type 0 where
   pub letters : w'.letters ≡ w.letters + n
-  pub less : left l ts w' < m
+  pub less : left w' < m
 
--- What a step leaves: less to do, unless it ends the walk.
-abbrev pub Leaves : Layout → List ℕ → Walk → ℕ → Step → Walk → Type 0
-Leaves l ts w m (Letter c) w' = GoesOn l ts w 1 m w'
-Leaves l ts w m On w' = GoesOn l ts w 0 m w'
-Leaves l ts w m Done w' = w'.letters ≡ w.letters
-Leaves l ts w m NoTree w' = Unit {0}
+-- A visit of the node i, which may be a letter.
+abbrev pub Visited : Walk → ℕ → Result (Option ℕ) NoTree → Walk → Type 0
+Visited w i (Ok (Some c)) w' = (to_come_by w i ≡ option_map (λ a. c ∷ a) (to_come w')) × GoesOn w 1 (size (expr_of w i) + left w) w'
+Visited w i (Ok None) w' = (to_come_by w i ≡ to_come w') × GoesOn w 0 (size (expr_of w i) + left w) w'
+Visited w i (Err e) w' = to_come_by w i ≡ None
 
--- A step of a walk: the visit of the node i, and any step.
-pub record Visited (l : Layout) (ts : List ℕ) (w : Walk) (i : ℕ) (s : Step) (w' : Walk) : Type 0 where
-  pub codes : along (due 0 (expr_at (nodes_of l) i) ∷ dues_of l w) w.letters (drop w.at ts) ≡ after s (to_come l ts w')
-  pub leaves : Leaves l ts w (size (expr_at (nodes_of l) i) + left l ts w) s w'
+-- A step to the next letter, or to the end.
+abbrev pub Moved : Walk → Result (Option ℕ) NoTree → Walk → Type 0
+Moved w (Ok (Some c)) w' = (to_come w ≡ option_map (λ a. c ∷ a) (to_come w')) × GoesOn w 1 (left w) w'
+Moved w (Ok None) w' = (to_come w ≡ Some []) × (w'.letters ≡ w.letters)
+Moved w (Err e) w' = to_come w ≡ None
 
-pub record Moved (l : Layout) (ts : List ℕ) (w : Walk) (s : Step) (w' : Walk) : Type 0 where
-  pub codes : to_come l ts w ≡ after s (to_come l ts w')
-  pub leaves : Leaves l ts w (left l ts w) s w'
+-- A walk that is to spell what these turns spell along the layout.
+pub record Begun (l : Layout) (ts : List ℕ) (w : Walk) : Type 0 where
+  pub codes : to_come w ≡ codes (expression_of l) ts
+  pub letters : w.letters ≡ 0
+  pub few : left w ≤ 255 * (length ts + 1)

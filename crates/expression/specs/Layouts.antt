@@ -27,7 +27,7 @@ expression_of l = expr_at (nodes_of l) (last (nodes_of l))
 -- What the fields of the node with number i tell: it ends a part of the table, which denotes its expression.
 pub record Means (l : Layout) (i : ℕ) : Type 0 where
   pub part : Part (table_of l) (node (nodes_of l) i).start (suc i) (expr_at (nodes_of l) i)
-  pub made : expr_at (nodes_of l) i ≡ expr_by (expr_at (nodes_of l)) (node (nodes_of l) i) (node (nodes_of l) i).shape
+  pub made : expr_at (nodes_of l) i ≡ expr_by (expr_at (nodes_of l)) (node (nodes_of l) i).shape
   pub admits : (node (nodes_of l) i).admits ≡ admits_empty (expr_at (nodes_of l) i)
   pub letters : (node (nodes_of l) i).letters ≡ letters_below (table_of l) (suc i)
   pub fits : Fitted (nodes_of l) i (node (nodes_of l) i)

@@ -21,5 +21,6 @@ pub mod Walks
 pub mod PlaceTheorems
 pub mod WorkedLines
 pub mod Spelling
+pub mod Coming
 pub mod Following
 pub mod Passing

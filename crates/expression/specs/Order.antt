@@ -1,5 +1,5 @@
 -- Which of two trees of one expression stands before the other, and the first tree of a word.
-use Rattle.std.specs.Prelude.{◌≡◌, ℕ, ◌+◌, ◌*◌, ◌<◌, cond, ◌⊎◌, List}
+use Rattle.std.specs.Prelude.{◌≡◌, ℕ, ◌+◌, ◌*◌, ◌<◌, if◌then◌else◌, ◌⊎◌, List}
 use Rattle.expression.specs.Expressions.{Expr, pair, or, star}
 use Rattle.expression.specs.Trees.{Tree, leaf, unit, both, left, right, end, more, has_letters}
 use Rattle.expression.specs.Words.{Parse}
@@ -16,7 +16,7 @@ side (more t u) = 0
 
 -- The rank of a tree at its node: one with letters ranks below one without, and of two that are alike in this, left ranks below right.
 abbrev pub rank : Expr → Tree → ℕ
-rank e t = 2 * cond (has_letters t) 0 1 + side t
+rank e t = 2 * (if has_letters t then 0 else 1) + side t
 
 mutual
   -- Of two trees of one node the lower in rank stands before; of two that are equal in rank, the one whose parts do.

@@ -1,29 +1,28 @@
 -- What a whole walk writes. This serves the proofs only: Spelling says what turns spell.
-use Rattle.std.specs.Prelude.{◌≡◌, ℕ, ◌+◌, ◌^◌, ◌<◌, true, List, length, Option}
-use Rattle.std.proofs.Math.Option as maybe
+use Rattle.std.specs.Prelude.{◌≡◌, ℕ, ◌+◌, ◌*◌, ◌<◌, ◌≤◌, true, List, length, Some, Ok, Err, Result, None, Option}
+use Rattle.std.specs.Option.{option_map}
 use Rattle.expression.specs.declared.layout.Layout.{Layout}
-use Rattle.expression.specs.Following.{size}
+use Rattle.expression.specs.declared.walk.NoTree.{NoTree}
 use Rattle.expression.specs.Layouts.{nodes_of}
-use Rattle.expression.specs.Nodes.{node, expr_at}
-use Rattle.expression.specs.Spelling.{counted, written}
+use Rattle.expression.specs.Nodes.{admits_at}
+use Rattle.expression.specs.Spelling.{written}
 
--- The list, if there is one, is written from the start on as far as there is room.
-abbrev pub Filled : {A : Type 0} → maybe.Option (List A) → List A → List A → Type 0
-Filled maybe.none buf buf' = Unit {0}
-Filled (maybe.some xs) buf buf' = buf' ≡ written xs 0 buf
+-- The count of a list, which is at most 255 for each of n turns and 255 before them; or none where there is no list.
+abbrev pub Counted : Option (List ℕ) → ℕ → Result ℕ NoTree → Type 0
+Counted o n (Ok k) = (Some k ≡ option_map length o) × (k ≤ 255 * (n + 1))
+Counted o n (Err e) = o ≡ None
 
--- The list is counted, if there is one, and written.
-pub record Spelled {A : Type 0} (o : maybe.Option (List A)) (r : Option ℕ) (buf buf' : List A) : Type 0 where
-  pub count : r ≡ counted o
-  pub buffer : Filled o buf buf'
+-- The list is counted, and written from the start on as far as there is room; or there is none.
+abbrev pub Spelled : {A : Type 0} → Option (List A) → Result ℕ NoTree → List A → List A → Type 0
+Spelled {A} o (Ok k) buf buf' = (xs : List A) × (o ≡ Some xs) × (k ≡ length xs) × (buf' ≡ written xs 0 buf)
+Spelled o (Err e) buf buf' = o ≡ None
 
 -- Items are counted, and written from n on as far as there is room.
 pub record Put {A : Type 0} (xs : List A) (n r : ℕ) (buf buf' : List A) : Type 0 where
   pub count : r ≡ length xs
   pub buffer : buf' ≡ written xs n buf
 
--- Node i has a tree without letters, and the place past its turns, from n on, is a number that the code can count.
-pub record Skips (l : Layout) (i n : ℕ) : Type 0 where
+-- Node i has a tree without letters.
+pub record Skips (l : Layout) (i : ℕ) : Type 0 where
   pub inside : i < length (nodes_of l)
-  pub admits : (node (nodes_of l) i).admits ≡ true
-  pub room : n + size (expr_at (nodes_of l) i) < 2 ^ 128
+  pub admits : admits_at (nodes_of l) i ≡ true

@@ -1,11 +1,11 @@
 -- What is proved of places.
 use Rattle.std.specs.Prelude.{◌≡◌, ℕ, ◌≤◌, true, ◌↔◌, List, [], ◌∷◌}
+use Rattle.std.specs.Option.{option_map}
 use Rattle.expression.specs.Expressions.{Expr, admits_empty}
 use Rattle.expression.specs.Trees.{Tree}
 use Rattle.expression.specs.Words.{Word}
 use Rattle.expression.specs.Turns.{turns}
 use Rattle.expression.specs.Tuples.{Parses, turn_all}
-use Rattle.expression.specs.Optional.{omap}
 use Rattle.expression.specs.Search.{greedy, first_tree}
 use Rattle.expression.specs.Places.{letter_count, code, exprs, continuation, follows, may_end, finishes}
 use Rattle.expression.specs.Walks.{walk}
@@ -27,5 +27,5 @@ pub record Finishes : Type 0 where
 
 -- The walk from a place gives the turns of the first trees of its continuation; from place 0, of the first tree.
 pub record Walks : Type 0 where
-  pub place : (e : Expr) (w : List ℕ) (p : ℕ) → walk e w p ≡ omap turn_all (greedy w (exprs (continuation e p)))
-  pub start : (e : Expr) (w : List ℕ) → walk e w 0 ≡ omap turns (first_tree e w)
+  pub place : (e : Expr) (w : List ℕ) (p : ℕ) → walk e w p ≡ option_map turn_all (greedy w (exprs (continuation e p)))
+  pub start : (e : Expr) (w : List ℕ) → walk e w 0 ≡ option_map turns (first_tree e w)

@@ -1,5 +1,5 @@
 -- Places: the letters of an expression from left to right are places 1, 2 and so on; place 0 is before any letter.
-use Rattle.std.specs.Prelude.{ℕ, suc, ◌+◌, Bool, true, cond, ◌&&◌, List, [], ◌∷◌, ◌++◌, ◌==◌, nat_eq, slice_index, slice_index_or}
+use Rattle.std.specs.Prelude.{ℕ, suc, ◌+◌, Bool, true, if◌then◌else◌, ◌&&◌, List, [], ◌∷◌, ◌++◌, ◌==◌, nat_eq, slice_index, slice_index_or}
 use Rattle.expression.specs.Expressions.{Expr, letter, empty, pair, or, star, admits_empty}
 use Rattle.expression.specs.Members.{any}
 
@@ -57,14 +57,14 @@ all_admit_empty (x ∷ k) = admits_empty x.expr && all_admit_empty k
 abbrev pub heads : ℕ → Expr → List ℕ
 heads o (letter a) = suc o ∷ []
 heads o empty = []
-heads o (pair e f) = heads o e ++ cond (admits_empty e) (heads (o + letter_count e) f) []
+heads o (pair e f) = heads o e ++ (if admits_empty e then heads (o + letter_count e) f else [])
 heads o (or e f) = heads o e ++ heads (o + letter_count e) f
 heads o (star e) = heads o e
 
 -- The heads of a list of items: of the first, and past items that admit the empty word.
 abbrev pub all_heads : List Item → List ℕ
 all_heads [] = []
-all_heads (x ∷ k) = heads x.before x.expr ++ cond (admits_empty x.expr) (all_heads k) []
+all_heads (x ∷ k) = heads x.before x.expr ++ (if admits_empty x.expr then all_heads k else [])
 
 -- The places that follow a place.
 abbrev pub followers : Expr → ℕ → List ℕ

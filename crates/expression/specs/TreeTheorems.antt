@@ -1,6 +1,5 @@
 -- What is proved of trees, turns, the order and the search.
-use Rattle.std.specs.Prelude.{◌≡◌, ℕ, ◌⊎◌, ◌↔◌, List, [], ◌∷◌, ◌++◌}
-use Rattle.std.proofs.Math.Option.{some, none as nothing}
+use Rattle.std.specs.Prelude.{◌≡◌, ℕ, ◌⊎◌, ◌↔◌, List, [], ◌∷◌, ◌++◌, Some, None}
 use Rattle.expression.specs.Expressions.{Expr}
 use Rattle.expression.specs.Trees.{Tree, TreeOf}
 use Rattle.expression.specs.Words.{Parse, Word}
@@ -27,13 +26,13 @@ TurnsDetermine = (e : Expr) (t u : Tree) (s s' : List ℕ) → TreeOf e t → Tr
 
 -- Reading a tree from turns finds exactly the trees of the expression.
 pub record Decodes : Type 0 where
-  pub prefix : (e : Expr) (ts : List ℕ) (t : Tree) (rest : List ℕ) → (decode e ts ≡ some (decoded t rest)) ↔ (TreeOf e t × (ts ≡ turns t ++ rest))
-  pub exact : (e : Expr) (ts : List ℕ) (t : Tree) → (tree_with e ts ≡ some t) ↔ (TreeOf e t × (turns t ≡ ts))
+  pub prefix : (e : Expr) (ts : List ℕ) (t : Tree) (rest : List ℕ) → (decode e ts ≡ Some (decoded t rest)) ↔ (TreeOf e t × (ts ≡ turns t ++ rest))
+  pub exact : (e : Expr) (ts : List ℕ) (t : Tree) → (tree_with e ts ≡ Some t) ↔ (TreeOf e t × (turns t ≡ ts))
 
 -- The search finds the first tree, or nothing exactly if there is no tree; so does the search over several items, and the one for a tree without letters.
 pub record Finds : Type 0 where
-  pub tree : (e : Expr) (w : List ℕ) (t : Tree) → (first_tree e w ≡ some t) ↔ First e w t
-  pub missing : (e : Expr) (w : List ℕ) → (first_tree e w ≡ nothing) ↔ (Word e w → ⊥)
+  pub tree : (e : Expr) (w : List ℕ) (t : Tree) → (first_tree e w ≡ Some t) ↔ First e w t
+  pub missing : (e : Expr) (w : List ℕ) → (first_tree e w ≡ None) ↔ (Word e w → ⊥)
   pub items : (w : List ℕ) (k : List Expr) → FirstOf (Parses k w) (Lex k) (greedy w k)
   pub without_letters : (e : Expr) → FirstOf (Parse e []) (Before e) (empty_tree e)
 

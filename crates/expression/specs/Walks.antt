@@ -1,11 +1,10 @@
 -- The turns of the first tree, written down by walking from place to place.
-use Rattle.std.specs.Prelude.{ℕ, suc, ◌+◌, cond, List, [], ◌∷◌, ◌++◌, map, ◌==◌}
-use Rattle.std.proofs.Math.Option.{Option, some, none as nothing}
+use Rattle.std.specs.Prelude.{ℕ, suc, ◌+◌, if◌then◌else◌, List, [], ◌∷◌, ◌++◌, map, ◌==◌, Some, None, Option}
+use Rattle.std.specs.Option.{option_map, option_or}
 use Rattle.expression.specs.Expressions.{Expr, letter, empty, pair, or, star}
 use Rattle.expression.specs.Trees.{Tree}
 use Rattle.expression.specs.Turns.{turns}
 use Rattle.expression.specs.Tuples.{turn_all}
-use Rattle.expression.specs.Optional.{omap, or_else}
 use Rattle.expression.specs.Search.{empty_tree, empty_trees}
 use Rattle.expression.specs.Places.{letter_count, Item, item, exprs, continuation}
 
@@ -22,8 +21,8 @@ after ts s = record { turned = ts ++ s.turned; letter = s.letter; place = s.plac
 
 -- Stops past an expression with this tree without letters, if it has one.
 abbrev pub past : Option Tree → List Stop → List Stop
-past nothing l = []
-past (some t) l = map (after (turns t)) l
+past None l = []
+past (Some t) l = map (after (turns t)) l
 
 -- The stops inside e in order, where o letters stand before e and k is to come after it.
 abbrev pub stops : ℕ → Expr → List Item → List Stop
@@ -40,10 +39,10 @@ all_stops (x ∷ k) = stops x.before x.expr k ++ past (empty_tree x.expr) (all_s
 
 -- The turns by way of the first stop with the letter a from which H goes on.
 abbrev pub choose : ℕ → (Stop → Option (List ℕ)) → List Stop → Option (List ℕ)
-choose a H [] = nothing
-choose a H (s ∷ l) = or_else (cond (a == s.letter) (omap (λ r. s.turned ++ r) (H s)) nothing) (choose a H l)
+choose a H [] = None
+choose a H (s ∷ l) = option_or (if a == s.letter then option_map (λ r. s.turned ++ r) (H s) else None) (choose a H l)
 
 -- The turns from a place on to the end of the letters.
 abbrev pub walk : Expr → List ℕ → ℕ → Option (List ℕ)
-walk e [] p = omap turn_all (empty_trees (exprs (continuation e p)))
+walk e [] p = option_map turn_all (empty_trees (exprs (continuation e p)))
 walk e (a ∷ w) p = choose a (λ s. walk e w s.place) (all_stops (continuation e p))

@@ -5,6 +5,7 @@ mod buffer;
 pub mod check;
 mod empty_turns;
 pub mod fault;
+mod front;
 pub mod laws;
 pub mod layout;
 pub mod node;

@@ -1,26 +1,26 @@
 //! The nodes of a layout: checked, with what later steps read off them.
 
-#[derive(Clone, Copy)]
+/// What a node's part is made of. A child is told by its number.
+#[derive(Clone, Copy, PartialEq, Eq, Debug)]
 pub enum Shape {
-    Letter,
+    /// A letter, by its code.
+    Letter(u16),
+    /// The empty word.
     Empty,
-    Pair,
-    Or,
-    Star,
+    /// Two parts, one after the other.
+    Pair(u8, u8),
+    /// Either of two parts.
+    Or(u8, u8),
+    /// A list of words of one part.
+    Star(u8),
 }
 
 /// One checked node.
-#[derive(Clone, Copy)]
+#[derive(Clone, Copy, PartialEq, Eq, Debug)]
 pub struct Node {
     pub shape: Shape,
-    /// The code of a letter, else 0.
-    pub code: u16,
     /// Where the node's part begins.
     pub start: u8,
-    /// The first child of a pair or an or, or the child of a star, else 0.
-    pub first: u8,
-    /// The second child of a pair or an or, or the child of a star, else 0.
-    pub second: u8,
     /// The number of letter nodes up to this one: of a letter node, its place.
     pub letters: u8,
     /// Is the empty word a word of the node's part?

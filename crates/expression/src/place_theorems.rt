@@ -1,23 +1,20 @@
-//! The theory of places. Each theorem is the contract of a function that only returns 0.
+//! The theory of places. Each theorem is the contract of a function that does nothing.
 ghost use Rattle.expression.specs.PlaceTheorems.{Automaton, Finishes, Walks};
 
 /// Places and what follows them make up an automaton.
-pub fn places_are_an_automaton() -> u8
+#[tactic(auto, using(crate::proofs::PlaceTheorems::automaton))]
+pub fn places_are_an_automaton()
     ensures { Automaton }
-{
-    0
-}
+{}
 
 /// A place can finish letters exactly if trees of its continuation spell them, so place 0 can exactly if they are a word.
-pub fn places_finish_words() -> u8
+#[tactic(auto, using(crate::proofs::PlaceTheorems::finishing))]
+pub fn places_finish_words()
     ensures { Finishes }
-{
-    0
-}
+{}
 
 /// The walk over places gives the turns of the first tree.
-pub fn walk_gives_the_first_tree() -> u8
+#[tactic(auto, using(crate::proofs::PlaceTheorems::walks))]
+pub fn walk_gives_the_first_tree()
     ensures { Walks }
-{
-    0
-}
+{}

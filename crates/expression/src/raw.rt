@@ -1,7 +1,7 @@
 //! The nodes of a table as they arrive, unchecked.
 
 /// One node of a table. Its children stand before it.
-#[derive(Clone, Copy)]
+#[derive(Clone, Copy, PartialEq, Eq, Debug)]
 pub enum RawNode {
     /// A letter, by its code.
     Letter(u16),

@@ -1,6 +1,7 @@
 //! What is read of a layout.
-ghost use Rattle.std.specs.Prelude.{◌≡◌, length};
+ghost use Rattle.std.specs.Prelude.{◌≡◌, ◌<◌, length};
 ghost use Rattle.expression.specs.Layouts.{nodes_of, places_of};
+ghost use Rattle.expression.specs.Nodes.{node};
 
 use crate::layout::Layout;
 use crate::node::Node;
@@ -11,6 +12,14 @@ impl Layout {
         ensures { result.now ≡ nodes_of self.now }
     {
         self.nodes.as_slice()
+    }
+
+    /// The node with number `i`.
+    pub(crate) fn node(&self, i: u8) -> Node
+        requires { i < length (nodes_of self.now) }
+        ensures { result ≡ node (nodes_of self.now) i }
+    {
+        self.nodes[usize::from(i)]
     }
 
     /// The number of nodes.
@@ -24,7 +33,6 @@ impl Layout {
     pub fn places(&self) -> u8
         ensures { result ≡ places_of self.now }
     {
-        let last = self.nodes.len() - 1;
-        self.nodes[last].letters
+        self.nodes.last().map_or(0, |last| last.letters)
     }
 }

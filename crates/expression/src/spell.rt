@@ -1,58 +1,52 @@
 //! What trees spell that are handed over as their turns.
 ghost use Rattle.std.specs.Prelude.{◌≡◌, length};
+ghost use Rattle.std.specs.Option.{option_map};
 ghost use Rattle.expression.specs.Layouts.{expression_of};
-ghost use Rattle.expression.specs.Passing.{Spelled};
-ghost use Rattle.expression.specs.Spelling.{codes, counted, Few, spelt, spelt_into, word};
+ghost use Rattle.expression.specs.Passing.{Counted, Spelled};
+ghost use Rattle.expression.specs.Spelling.{codes, Few, spelt, spelt_into, word};
 
 use crate::buffer::put;
 use crate::layout::Layout;
 use crate::spell_fault::SpellFault;
-use crate::walk::{Step, Walk};
+use crate::walk::{NoTree, Walk};
 use alphabet::kind::Kind;
 
-/// How many codes the tree with these turns spells, or none where there is no such tree.
-fn count_codes(layout: &Layout, turns: &[u8]) -> Option<u128>
-    ensures count { result ≡ counted (codes (expression_of layout.now) turns.now) }
-    ensures few { Few result (length turns.now) }
+/// How many codes the tree with these turns spells.
+fn count_codes(layout: &Layout, turns: &[u8]) -> Result<u128, NoTree>
+    ensures { Counted (codes (expression_of layout.now) turns.now) (length turns.now) result }
 {
-    let mut walk = Walk::new(layout);
-    loop {
-        match walk.advance(layout, turns) {
-            Step::Letter(_) | Step::On => {}
-            Step::Done => return Some(walk.letters),
-            Step::NoTree => return None,
-        }
-    }
+    let mut walk = Walk::new(layout, turns);
+    while walk.next_code()?.is_some() {}
+    Ok(walk.letters)
 }
 
-/// Writes the letters of the tree with these turns as far as there is room, and counts them. None where there is no such tree.
-fn put_letters<K: Kind>(layout: &Layout, turns: &[u8], letters: &mut [K::Letter]) -> Option<u128>
+/// Writes the letters of the tree with these turns as far as there is room, and counts them.
+fn put_letters<K: Kind>(
+    layout: &Layout,
+    turns: &[u8],
+    letters: &mut [K::Letter],
+) -> Result<u128, NoTree>
     ensures { Spelled (word K.Kind.lettered (expression_of layout.now) turns.now) result letters.old letters.new }
 {
-    let mut walk = Walk::new(layout);
+    let mut walk = Walk::new(layout, turns);
     let mut count = 0;
-    loop {
-        match walk.advance(layout, turns) {
-            Step::Letter(code) => {
-                if let Some(letter) = K::letter(code) {
-                    put(letters, count, letter);
-                    count += 1;
-                }
-            }
-            Step::On => {}
-            Step::Done => return Some(count),
-            Step::NoTree => return None,
+    while let Some(code) = walk.next_code()? {
+        if let Some(letter) = K::letter(code) {
+            let at = usize::try_from(count).unwrap_or(usize::MAX);
+            put(letters, at, letter);
+            count += 1;
         }
     }
+    Ok(count)
 }
 
 impl Layout {
     /// How many letters the tree with these turns spells, or none where the layout's expression has no such tree.
     pub fn measure(&self, turns: &[u8]) -> Option<u128>
-        ensures count { result ≡ counted (codes (expression_of self.now) turns.now) }
+        ensures count { result ≡ option_map length (codes (expression_of self.now) turns.now) }
         ensures few { Few result (length turns.now) }
     {
-        count_codes(self, turns)
+        count_codes(self, turns).ok()
     }
 
     /// Writes the letters of the tree with these turns at the start of `letters`, and counts them.
@@ -64,11 +58,11 @@ impl Layout {
         ensures answer { result ≡ spelt (word K.Kind.lettered (expression_of self.now) turns.now) (length letters.old) }
         ensures buffer { letters.new ≡ spelt_into (word K.Kind.lettered (expression_of self.now) turns.now) letters.old }
     {
-        let count = put_letters::<K>(self, turns, &mut []).ok_or(SpellFault::NoTree)?;
+        let count = put_letters::<K>(self, turns, &mut [])?;
         if count > letters.len() as u128 {
             return Err(SpellFault::TooShort(count));
         }
-        put_letters::<K>(self, turns, letters);
+        put_letters::<K>(self, turns, letters)?;
         Ok(count as usize)
     }
 }

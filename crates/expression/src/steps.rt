@@ -1,118 +1,100 @@
 //! The steps of a walk along a layout.
-ghost use Rattle.std.specs.Prelude.{◌≡◌, ◌<◌, length};
-ghost use Rattle.expression.specs.Following.{Moved, Next, pushed, Ready, start, turn_at, Visited};
-ghost use Rattle.expression.specs.Layouts.{nodes_of};
-ghost use Rattle.expression.specs.Nodes.{node};
+ghost use Rattle.std.specs.Prelude.{◌≡◌};
+ghost use Rattle.expression.specs.Following.{Begun, Moved, Next, Turned, Visited};
 
 use crate::layout::Layout;
-use crate::node::{Node, Shape};
-use crate::walk::{Step, Walk};
+use crate::node::Shape;
+use crate::walk::{NoTree, Pending, Walk};
+use arrayvec::ArrayVec;
 
-/// The turn at `at`: false for 0, true for 1. None where there is no turn, or one of another value.
-fn turn(turns: &[u8], at: usize) -> Option<bool>
-    ensures { result ≡ turn_at turns.now at }
+/// The first turn, false for 0 and true for 1, and the turns after it.
+fn split_turn(turns: &[u8]) -> Result<(bool, &[u8]), NoTree>
+    ensures { Turned turns.now result }
 {
-    if at >= turns.len() {
-        return None;
-    }
-    match turns[at] {
-        0 => Some(false),
-        1 => Some(true),
-        _ => None,
+    match turns {
+        [0, rest @ ..] => Ok((false, rest)),
+        [1, rest @ ..] => Ok((true, rest)),
+        _ => Err(NoTree),
     }
 }
 
-/// The node with number `i`.
-pub(crate) fn read(layout: &Layout, i: u8) -> Node
-    requires { i < length (nodes_of layout.now) }
-    ensures { result ≡ node (nodes_of layout.now) i }
-{
-    layout.nodes[usize::from(i)]
+impl Pending {
+    /// A node that may be visited at once.
+    fn at_once(node: u8) -> Pending
+        ensures { result ≡ record { node = node; owed = 0 } }
+    {
+        Pending { node, owed: 0 }
+    }
 }
 
-impl Walk {
+impl<'a> Walk<'a> {
     /// A walk at the start of a layout.
-    pub(crate) fn new(layout: &Layout) -> Walk
-        ensures { result ≡ start layout.now }
+    pub(crate) fn new(layout: &'a Layout, turns: &'a [u8]) -> Self
+        ensures { Begun layout.now turns.now result }
     {
         let root = layout.nodes.len() - 1;
-        let mut walk = Walk {
-            stack: [0; 255],
-            owed: [0; 255],
-            height: 0,
-            at: 0,
+        let mut pending = ArrayVec::new();
+        pending.push(Pending::at_once(root as u8));
+        Walk {
+            layout,
+            turns,
+            pending,
             letters: 0,
-        };
-        walk.push(root as u8, 0);
-        walk
+        }
     }
 
-    /// Puts a node on top, which the walk may visit once it has passed `owed` letters.
-    fn push(&mut self, node: u8, owed: u128)
-        requires { self.old.height < 255 }
-        ensures { self.new ≡ pushed self.old node owed }
+    /// Visits the node `i`, which was on top, and gives its code if it is a letter.
+    fn visit(&mut self, i: u8) -> Result<Option<u16>, NoTree>
+        requires { Next self.old i }
+        ensures { Visited self.old i result self.new }
     {
-        self.stack[self.height] = node;
-        self.owed[self.height] = owed;
-        self.height += 1;
-    }
-
-    /// Visits the node `i`, which was on top.
-    fn visit(&mut self, layout: &Layout, turns: &[u8], i: u8) -> Step
-        requires { Next layout.now turns.now self.old i }
-        ensures { Visited layout.now turns.now self.old i result self.new }
-    {
-        let here = read(layout, i);
-        match here.shape {
-            Shape::Letter => {
+        match self.layout.node(i).shape {
+            Shape::Letter(code) => {
                 self.letters += 1;
-                Step::Letter(here.code)
+                return Ok(Some(code));
             }
-            Shape::Empty => Step::On,
-            Shape::Pair => {
-                self.push(here.second, 0);
-                self.push(here.first, 0);
-                Step::On
+            Shape::Empty => {}
+            Shape::Pair(first, second) => {
+                self.pending.push(Pending::at_once(second));
+                self.pending.push(Pending::at_once(first));
             }
-            Shape::Or => {
-                let Some(right) = turn(turns, self.at) else {
-                    return Step::NoTree;
-                };
-                self.at += 1;
-                let side = if right { here.second } else { here.first };
-                self.push(side, 0);
-                Step::On
+            Shape::Or(left, right) => {
+                let (turned, rest) = split_turn(self.turns)?;
+                self.turns = rest;
+                let side = if turned { right } else { left };
+                self.pending.push(Pending::at_once(side));
             }
-            Shape::Star => {
-                let Some(ends) = turn(turns, self.at) else {
-                    return Step::NoTree;
-                };
-                self.at += 1;
+            Shape::Star(child) => {
+                let (ends, rest) = split_turn(self.turns)?;
+                self.turns = rest;
                 if !ends {
-                    self.push(i, self.letters + 1);
-                    self.push(here.second, 0);
+                    self.pending.push(Pending {
+                        node: i,
+                        owed: self.letters + 1,
+                    });
+                    self.pending.push(Pending::at_once(child));
                 }
-                Step::On
             }
         }
+        Ok(None)
     }
 
-    /// Visits the node on top, if enough letters are passed, or ends.
-    pub(crate) fn advance(&mut self, layout: &Layout, turns: &[u8]) -> Step
-        requires { Ready layout.now turns.now self.old }
-        ensures { Moved layout.now turns.now self.old result self.new }
+    /// Goes on to the next letter, and gives its code; none at the end.
+    pub(crate) fn next_code(&mut self) -> Result<Option<u16>, NoTree>
+        ensures { Moved self.old result self.new }
     {
-        if self.height == 0 {
-            return if self.at == turns.len() {
-                Step::Done
-            } else {
-                Step::NoTree
-            };
+        while let Some(Pending { node, owed }) = self.pending.pop() {
+            if self.letters < owed {
+                return Err(NoTree);
+            }
+            if let Some(code) = self.visit(node)? {
+                return Ok(Some(code));
+            }
         }
-        self.height -= 1;
-        if self.letters < self.owed[self.height] {
-            return Step::NoTree;
+        if self.turns.is_empty() {
+            Ok(None)
+        } else {
+            Err(NoTree)
         }
-        self.visit(layout, turns, self.stack[self.height])
     }
 }

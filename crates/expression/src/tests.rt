@@ -8,10 +8,7 @@ use std::test::Fail;
 
 /// Why a table of bytes is refused, if it is.
 fn fault(heap: Global, table: &[RawNode]) -> Option<TableFault> {
-    match Layout::new::<Bytes>(heap, table) {
-        Ok(_) => None,
-        Err(fault) => Some(fault),
-    }
+    Layout::new::<Bytes>(heap, table).err()
 }
 
 #[test]

@@ -1,29 +1,34 @@
 //! A walk along a layout, led by turns.
+ghost use Rattle.std.specs.Prelude.{◌+◌, ◌*◌, ◌^◌, ◌<◌, length, reverse};
+ghost use Rattle.expression.specs.Coming.{Fits, dues, weight};
+ghost use Rattle.expression.specs.Layouts.{nodes_of};
 
-/// What is still to come of a walk: the nodes to visit, the next on top, and how far the walk has come.
+use crate::layout::Layout;
+use arrayvec::ArrayVec;
+
+/// A node that a walk has still to visit.
+#[derive(Clone, Copy, Default)]
+pub(crate) struct Pending {
+    /// The node's number.
+    pub(crate) node: u8,
+    /// How many letters the walk must have passed before it.
+    pub(crate) owed: u128,
+}
+
+/// What is still to come of a walk, and how far it has come.
 #[derive(Drop)]
-pub(crate) struct Walk {
-    /// The numbers of the nodes to come.
-    pub(crate) stack: [u8; 255],
-    /// For each node to come, how many letters the walk must have passed before it.
-    pub(crate) owed: [u128; 255],
-    /// How many nodes are to come.
-    pub(crate) height: usize,
-    /// How many turns are taken.
-    pub(crate) at: usize,
+pub(crate) struct Walk<'a> {
+    pub(crate) layout: &'a Layout,
+    /// The turns to come.
+    pub(crate) turns: &'a [u8],
+    /// The nodes to come, the next one last.
+    pub(crate) pending: ArrayVec<Pending, 255>,
     /// How many letters are passed.
     pub(crate) letters: u128,
+    ghost fits: { ∥ Fits (nodes_of layout.now) (reverse pending.items) ∥₁ },
+    ghost small: { letters + (255 * length turns.now + weight (dues (nodes_of layout.now) (reverse pending.items))) < 2 ^ 128 },
 }
 
-/// What one step of a walk met.
+/// The turns are those of no tree.
 #[derive(Clone, Copy)]
-pub(crate) enum Step {
-    /// A letter, by its code.
-    Letter(u16),
-    /// No letter; the walk goes on.
-    On,
-    /// The end, with every turn taken.
-    Done,
-    /// The turns are those of no tree.
-    NoTree,
-}
+pub(crate) struct NoTree;

@@ -1,53 +1,70 @@
 -- One letter more in the buffer, and the last.
-use Rattle.std.proofs.Common.{◌≡◌, ℕ, ◌+◌, ◌<◌, ◌≤◌, cond, List, [], ◌∷◌, ◌++◌, length, get_or, take, drop, set, sym, ap, ◌∙◌, subst, append_assoc, add-zero, arith, length-drop, le-ltb, lt-ltb}
-use Rattle.std.proofs.lemmas.List.{drop_more, drop-drop, drop_all, take_more, take_all, set_at, get_or-drop, length-take-le}
-use Rattle.feed.specs.declared.ending.Ending.{Ending}
-use Rattle.feed.specs.declared.gathering.Gathered.TheVariants.{Beyond}
-use Rattle.feed.specs.Gathering.{Each, gathered, over, with_ending}
+use Rattle.std.proofs.Common.{◌≡◌, ℕ, ◌+◌, ◌<◌, ◌≤◌, List, [], ◌∷◌, ◌++◌, length, get_or, take, drop, set, Option, Some, None, Result, Ok, sym, ap, ◌∙◌, subst, append_assoc, arith, length-drop}
+use Rattle.std.specs.Prelude.{All}
+use Rattle.std.proofs.lemmas.List.{drop_more, drop_all, take_more, take_all, set_at, length-take, length-take-le, drop-append-le, take-append-drop}
+use Rattle.std.proofs.lemmas.Grind.{common_steps}
+use Rattle.std.proofs.lemmas.List.Elements.{All-more}
+use Rattle.feed.specs.declared.fault.Fault.{Fault}
+use Rattle.feed.specs.declared.gathering.Ungathered.{Ungathered}
+use Rattle.feed.specs.Gathering.{TookAfter, gathered, over, with_ending}
 
-each_push : {L : Type 0} (p : L → Type 0) (xs : List L) (x : L) → Each p xs → p x → Each p (xs ++ x ∷ [])
-each_push p [] x es e = (e, tt)
-each_push p (y ∷ ys) x es e = (es.0, each_push p ys x es.1 e)
-
--- After n letters of w comes l, and then v.
-module _ {L : Type 0} (w : List L) (n : ℕ) (l : L) (v : List L) (e : drop n w ≡ l ∷ v) where
-  pub more : n < length w
-  more = omega (arith, ap length e, length-drop n w)
-
-  pub next_drop : v ≡ drop (n + 1) w
-  next_drop = sym (ap (drop 1) e) ∙ drop-drop 1 n w
+-- After the first n letters of w, which stand in the buffer b, comes l, and then v.
+module _ {L : Type 0} (w b x : List L) (n : ℕ) (l : L) (v : List L) (s : x ≡ drop n w) (e : x ≡ l ∷ v) where
+  next : (n < length w) × (get_or w n l ≡ l) × (v ≡ drop (n + 1) w)
+  next = let size = length-drop n w in let more = drop_more w n l in grind (arith, common_steps)
 
   next_take : take (n + 1) w ≡ take n w ++ (l ∷ [])
-  next_take =
-      let read : get_or w n l ≡ l = ap (λ k. get_or w k l) (sym (add-zero n)) ∙ sym (get_or-drop n w 0 l) ∙ ap (λ t. get_or t 0 l) e in
-      take_more w n l more ∙ ap (λ x. take n w ++ (x ∷ [])) read
+  next_take = take_more w n l next.0 ∙ ap (λ y. take n w ++ (y ∷ [])) next.1
 
-  pub next_set : (b : List L) → n < length b → set (take n w ++ drop n b) n l ≡ take (n + 1) w ++ drop (n + 1) b
-  next_set b h =
-      let m = more in
-      ap (λ r. set (take n w ++ r) n l) (drop_more b n l h) ∙ set_at (take n w) (get_or b n l) (drop (n + 1) b) l n (length-take-le n w (omega arith)) ∙ sym (append_assoc (take n w) (l ∷ []) (drop (n + 1) b)) ∙ ap (λ t. t ++ drop (n + 1) b) (sym next_take)
+  pub more_within : n + 1 ≤ length w
+  more_within = omega (arith, next.0)
 
-  pub next_each : (p : L → Type 0) → Each p (take n w) → p l → Each p (take (n + 1) w)
-  next_each p es q = subst (Each p) (sym next_take) (each_push p (take n w) l es q)
+  pub more_left : v ≡ drop (n + 1) w
+  more_left = next.2
 
--- All of w is taken, n letters, which are at most m.
-module _ {L : Type 0} (w : List L) (n m : ℕ) (e : drop n w ≡ []) (hw : n ≤ length w) (hm : n ≤ m) where
-  pub all_taken : n ≡ length w
-  all_taken = omega (arith, ap length e, length-drop n w)
+  pub more_buffer : (c : List L) → c ≡ take n w ++ drop n b → n < length b → set c n l ≡ take (n + 1) w ++ drop (n + 1) b
+  more_buffer c q h =
+      let m = next.0 in
+      ap (λ t. set t n l) (q ∙ ap (λ r. take n w ++ r) (drop_more b n l h)) ∙ set_at (take n w) (get_or b n l) (drop (n + 1) b) l n (length-take-le n w (omega arith)) ∙ sym (append_assoc (take n w) (l ∷ []) (drop (n + 1) b)) ∙ ap (λ t. t ++ drop (n + 1) b) (sym next_take)
 
-  pub all_first : take n w ≡ take m w
-  all_first = let k = all_taken in take_all n w (omega arith) ∙ sym (take_all m w (omega arith))
+  pub more_ranged : (p : L → Type 0) → All p (take n w) → p l → All p (take (n + 1) w)
+  more_ranged p es q = All-more p w n l next.0 es (subst p (sym next.1) q)
 
-  pub none_left : drop (m + 1) w ≡ []
-  none_left = let k = all_taken in drop_all (m + 1) w (omega arith)
+-- All of w is taken, n letters, which the buffer b has room for.
+module _ {L : Type 0} (w b x : List L) (n : ℕ) (s : x ≡ drop n w) (e : x ≡ []) (hw : n ≤ length w) (hm : n ≤ length b) where
+  all : n ≡ length w
+  all = omega (arith, ap length (sym s ∙ e), length-drop n w)
 
--- The first n letters in the buffer are those that were to be gathered.
-pub filled : {L : Type 0} (w b : List L) (n m : ℕ) → n ≤ length w → take n w ≡ take m w → take n w ++ drop n b ≡ over (take m w) b
-filled w b n m h e = ap (λ k. take n w ++ drop k b) (sym (length-take-le n w h)) ∙ ap (λ t. over t b) e
+  first : take n w ≡ take (length b) w
+  first = let k = all in take_all n w (omega arith) ∙ sym (take_all (length b) w (omega arith))
 
-pub told_beyond : {L : Type 0} (w : List L) (e : Ending) (m : ℕ) → m < length w → Beyond m ≡ gathered w e m
-told_beyond w e m h = sym (ap (λ b. cond b (Beyond m) (with_ending (length w) e)) (lt-ltb m (length w) h))
+  pub ended_buffer : (c : List L) → c ≡ take n w ++ drop n b → c ≡ over (take (length b) w) b
+  ended_buffer c q = q ∙ ap (λ k. take n w ++ drop k b) (sym (length-take-le n w hw)) ∙ ap (λ t. over t b) first
 
-pub told_end : {L : Type 0} (w : List L) (e f : Ending) (n m : ℕ) → n ≡ length w → n ≤ m → f ≡ e → with_ending n f ≡ gathered w e m
-told_end w e f n m p h q =
-    ap (λ x. with_ending x f) p ∙ ap (with_ending (length w)) q ∙ sym (ap (λ b. cond b (Beyond m) (with_ending (length w) e)) (le-ltb m (length w) (omega arith)))
+  pub ended_left : (v : List L) → v ≡ [] → v ≡ drop (length b + 1) w
+  ended_left v q = let k = all in q ∙ sym (drop_all (length b + 1) w (omega arith))
+
+  pub ended_answer : (d f : Option Fault) (r : Result ℕ Ungathered) → d ≡ f → with_ending n d ≡ r → r ≡ gathered w f (length b)
+  ended_answer d f r p q = let k = all in let z : with_ending n f ≡ r = ap (with_ending n) (sym p) ∙ q in grind arith
+
+  pub ended_ranged : (p : L → Type 0) → All p (take n w) → All p (take (length b) w)
+  ended_ranged p es = subst (All p) first es
+
+-- What a take answered, once its option is known.
+pub took_none : {L : Type 0} (n : ℕ) (x v : List L) (f : Option Fault) (o : Option L) → o ≡ None → TookAfter n x f (Ok o) v → TookAfter n x f (Ok None) v
+took_none n x v f o e t = subst (λ z. TookAfter n x f (Ok z) v) e t
+
+pub took_some : {L : Type 0} (n : ℕ) (x v : List L) (f : Option Fault) (o : Option L) (l : L) → o ≡ Some l → TookAfter n x f (Ok o) v → x ≡ l ∷ v
+took_some n x v f o l e t = subst (λ z. TookAfter n x f (Ok z) v) e t
+
+-- The letters over a part of the buffer, and the rest of the buffer after it.
+pub over_part : {L : Type 0} (xs b : List L) (m : ℕ) → length xs ≤ m → m ≤ length b → over xs (take m b) ++ drop m b ≡ over xs b
+over_part xs b m h k =
+    let room : length xs ≤ length (take m b) = rw (length-take-le m b k) h in
+    append_assoc xs (drop (length xs) (take m b)) (drop m b) ∙ ap (λ t. xs ++ t) (sym (drop-append-le (length xs) (take m b) (drop m b) room) ∙ ap (drop (length xs)) (take-append-drop m b))
+
+pub over_front : {L : Type 0} (w b c : List L) (m : ℕ) → m ≤ length b → c ≡ over (take (length (take m b)) w) (take m b) → c ++ drop m b ≡ over (take m w) b
+over_front w b c m k e =
+    let size = length-take-le m b k in
+    let few : length (take m w) ≤ m = rw length-take (omega arith) in
+    ap (λ t. t ++ drop m b) (e ∙ ap (λ j. over (take j w) (take m b)) size) ∙ over_part (take m w) b m few k

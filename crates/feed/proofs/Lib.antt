@@ -1,3 +1,1 @@
 mod GatherLaws
-mod LineLaws
-mod TableLaws

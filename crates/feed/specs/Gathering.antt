@@ -1,9 +1,8 @@
 -- What a gathering leaves in its buffer, and what it answers.
-use Rattle.std.specs.Prelude.{ℕ, min, cond, List, [], ◌∷◌, ◌++◌, length, drop, nat_lt}
-use Rattle.feed.specs.declared.ending.Ending.{Ending}
-use Rattle.feed.specs.declared.ending.Ending.TheVariants as ending
-use Rattle.feed.specs.declared.gathering.Gathered.{Gathered}
-use Rattle.feed.specs.declared.gathering.Gathered.TheVariants.{Ended, Fault, Beyond}
+use Rattle.std.specs.Prelude.{◌≡◌, ℕ, min, if◌then◌else◌, List, [], ◌∷◌, ◌++◌, length, drop, Some, None, Ok, Err, Option, Result, nat_lt}
+use Rattle.feed.specs.declared.fault.Fault as fault
+use Rattle.feed.specs.declared.gathering.Ungathered.{Ungathered}
+use Rattle.feed.specs.declared.gathering.Ungathered.TheVariants.{Fault, Beyond}
 
 -- How many letters are gathered at most.
 abbrev pub limit : {L : Type 0} → List L → ℕ
@@ -14,15 +13,16 @@ abbrev pub over : {L : Type 0} → List L → List L → List L
 over xs buf = xs ++ drop (length xs) buf
 
 -- The answer where the ending came after n letters.
-abbrev pub with_ending : ℕ → Ending → Gathered
-with_ending n ending.End = Ended n
-with_ending n (ending.Fault f) = Fault n f
+abbrev pub with_ending : ℕ → Option fault.Fault → Result ℕ Ungathered
+with_ending n None = Ok n
+with_ending n (Some f) = Err (Fault n f)
 
 -- The answer where the letters w wait before the ending e, and at most m are gathered.
-abbrev pub gathered : {L : Type 0} → List L → Ending → ℕ → Gathered
-gathered w e m = cond (nat_lt m (length w)) (Beyond m) (with_ending (length w) e)
+abbrev pub gathered : {L : Type 0} → List L → Option fault.Fault → ℕ → Result ℕ Ungathered
+gathered w e m = if nat_lt m (length w) then Err (Beyond m) else with_ending (length w) e
 
--- Each of the letters has the property p.
-abbrev pub Each : {L : Type 0} → (L → Type 0) → List L → Type 0
-Each p [] = Unit {0}
-Each p (l ∷ ls) = p l × Each p ls
+-- What a private helper of the code answers that takes after n letters: as `Took`, with a fault told after n letters.
+abbrev pub TookAfter : {L : Type 0} → ℕ → List L → Option fault.Fault → Result (Option L) Ungathered → List L → Type 0
+TookAfter n w e (Ok (Some l)) v = w ≡ l ∷ v
+TookAfter n w e (Ok None) v = (w ≡ []) × (v ≡ []) × (with_ending n e ≡ Ok n)
+TookAfter n w e (Err u) v = (w ≡ []) × (v ≡ []) × (with_ending n e ≡ Err u)

@@ -1,3 +1,4 @@
+pub mod Entries
 pub mod Feeds
 pub mod Gathering
 pub mod Layers

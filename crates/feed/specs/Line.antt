@@ -1,11 +1,13 @@
 -- What one line says. Bytes count from 0 here, and past the line's end a byte reads as 0.
-use Rattle.std.specs.Prelude.{ℕ, ◌+◌, ◌-◌, ◌*◌, ◌%◌, Bool, cond, not, ◌&&◌, ◌||◌, List, length, Some, None, Ok, Err, Option, Result, ◌==◌, nat_le, nat_lt, slice_index}
+use Rattle.std.specs.Prelude.{ℕ, ◌+◌, ◌-◌, ◌*◌, ◌%◌, Bool, if◌then◌else◌, not, ◌&&◌, ◌||◌, List, length, Some, None, Ok, Err, Option, Result, ◌==◌, nat_le, nat_lt, slice_index}
+use Rattle.std.specs.Char.{is_ascii_digit}
+use Rattle.std.specs.Option.{ok_or}
 use Rattle.std.proofs.Common.{lit<, mod-lt}
 use Rattle.alphabet.specs.declared.mark.Mark.{Mark}
 use Rattle.alphabet.specs.declared.mark.Stamp.{Stamp}
 use Rattle.alphabet.specs.declared.mark.Stamp.TheVariants.{Absent, WithinDay, Midnight}
 use Rattle.alphabet.specs.Codes.{mark}
-use Rattle.feed.specs.declared.ending.Fault.{Fault}
+use Rattle.feed.specs.declared.fault.Fault.{Fault}
 use Rattle.feed.specs.declared.line.LineFault.{LineFault}
 use Rattle.feed.specs.declared.line.LineFault.TheVariants.{NoDigit, NoBar, NoStamp}
 
@@ -14,10 +16,6 @@ abbrev pub line_fault : ℕ → LineFault → Fault
 line_fault n (NoDigit byte) = record { number = 21; first = n; second = byte }
 line_fault n NoBar = record { number = 22; first = n; second = 4 }
 line_fault n NoStamp = record { number = 23; first = n; second = 5 }
-
--- A decimal digit.
-abbrev pub digit : ℕ → Bool
-digit b = nat_le 48 b && nat_le b 57
 
 -- Two digits as a number.
 abbrev pub two : ℕ → ℕ → ℕ
@@ -34,17 +32,17 @@ closes l i = nat_le (length l) i || slice_index l i == 124
 -- The class of a time of day: 00:00 and 24:00 are midnight.
 abbrev pub time_class : ℕ → ℕ → Option Stamp
 time_class h m =
-    cond (m == 0 && (h == 0 || h == 24)) (Some Midnight) (cond (nat_lt h 24 && nat_lt m 60) (Some WithinDay) None)
+    if m == 0 && (h == 0 || h == 24) then Some Midnight else (if nat_lt h 24 && nat_lt m 60 then Some WithinDay else None)
 
 -- hh:mm stands at byte 4, and the line closes after it.
 abbrev pub timed : List ℕ → Bool
 timed l =
-    digit (slice_index l 4) && (digit (slice_index l 5) && (slice_index l 6 == 58 && (digit (slice_index l 7) && (digit (slice_index l 8) && closes l 9))))
+    is_ascii_digit (slice_index l 4) && (is_ascii_digit (slice_index l 5) && (slice_index l 6 == 58 && (is_ascii_digit (slice_index l 7) && (is_ascii_digit (slice_index l 8) && closes l 9))))
 
 -- What stands after the bar: no stamp, or one that is good, or else none of these.
 abbrev pub stamp_at : List ℕ → Option Stamp
 stamp_at l =
-    cond (closes l 4) (Some Absent) (cond (timed l) (time_class (two (slice_index l 4) (slice_index l 5)) (two (slice_index l 7) (slice_index l 8))) None)
+    if closes l 4 then Some Absent else (if timed l then time_class (two (slice_index l 4) (slice_index l 5)) (two (slice_index l 7) (slice_index l 8)) else None)
 
 -- The mark of a record number and a stamp. Three digits stay below 1,000, so the remainder is the number itself.
 abbrev pub mark_of : ℕ → Stamp → Mark
@@ -58,7 +56,18 @@ stamped n None = Err NoStamp
 -- The first of three digits, bar and stamp that is missing or wrong is the fault; with none, the line says a mark.
 abbrev pub reading : List ℕ → Result Mark LineFault
 reading l =
-    cond (not (digit (slice_index l 0))) (Err (NoDigit 1))
-    (cond (not (digit (slice_index l 1))) (Err (NoDigit 2))
-    (cond (not (digit (slice_index l 2))) (Err (NoDigit 3))
-    (cond (not (slice_index l 3 == 124)) (Err NoBar) (stamped (record_number l) (stamp_at l)))))
+    if not (is_ascii_digit (slice_index l 0)) then Err (NoDigit 1) else
+    (if not (is_ascii_digit (slice_index l 1)) then Err (NoDigit 2) else
+    (if not (is_ascii_digit (slice_index l 2)) then Err (NoDigit 3) else
+    (if not (slice_index l 3 == 124) then Err NoBar else stamped (record_number l) (stamp_at l))))
+
+-- What the private helpers of the code read: the digit at byte i, that digit of a record number or the fault, and the two digits from byte i on.
+abbrev pub digit_at : List ℕ → ℕ → Option ℕ
+digit_at l i = if is_ascii_digit (slice_index l i) then Some (slice_index l i - 48) else None
+
+abbrev pub number_digit : List ℕ → ℕ → Result ℕ LineFault
+number_digit l i = ok_or (digit_at l i) (NoDigit (i + 1))
+
+abbrev pub two_at : List ℕ → ℕ → Option ℕ
+two_at l i =
+    if is_ascii_digit (slice_index l i) && is_ascii_digit (slice_index l (i + 1)) then Some (two (slice_index l i) (slice_index l (i + 1))) else None

@@ -1,8 +1,7 @@
 //! The feed of a field's bytes.
-ghost use Rattle.std.specs.Prelude.{◌≡◌};
-ghost use Rattle.feed.specs.declared.ending.Ending.TheVariants.{End};
+ghost use Rattle.std.specs.Prelude.{◌≡◌, None};
 
-use crate::ending::{Ending, Taken};
+use crate::fault::Fault;
 use crate::feed::Feed;
 use alphabet::bytes::Bytes;
 
@@ -28,15 +27,13 @@ impl<'a> Feed for ByteFeed<'a> {
 
     ghost waiting = { λ s. s.rest.now };
 
-    ghost ending = { λ _. End };
+    ghost ending = { λ _. None };
 
-    fn take(&mut self) -> Taken<u8> {
-        match self.rest.split_first() {
-            Some((first, rest)) => {
-                self.rest = rest;
-                Taken::Letter(*first)
-            }
-            None => Taken::Ended(Ending::End),
-        }
+    fn take(&mut self) -> Result<Option<u8>, Fault> {
+        let Some((first, rest)) = self.rest.split_first() else {
+            return Ok(None);
+        };
+        self.rest = rest;
+        Ok(Some(*first))
     }
 }

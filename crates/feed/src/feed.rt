@@ -1,12 +1,12 @@
 //! The meaning that every feed shows.
-ghost use Rattle.std.specs.Prelude.{◌≡◌, List};
-ghost use Rattle.feed.specs.Feeds.{Told, Took};
-ghost use Rattle.feed.specs.declared.ending.Ending.{Ending};
+ghost use Rattle.std.specs.Prelude.{◌≡◌, List, Option, IfOk, IfSome};
+ghost use Rattle.feed.specs.Feeds.{Took};
+ghost use Rattle.feed.specs.declared.fault.Fault.{Fault};
 
-use crate::ending::{Ending, Taken};
+use crate::fault::Fault;
 use alphabet::kind::Kind;
 
-/// Letters that come one by one, and then an ending that stays.
+/// Letters that come one by one, and then the end or a fault, which stays.
 pub trait Feed {
     type Letter: Copy + Drop;
 
@@ -15,12 +15,12 @@ pub trait Feed {
     /// The letters that still wait, first to last.
     ghost waiting: { Self → List Self.Letter };
 
-    /// What comes after the last of them.
-    ghost ending: { Self → Ending };
+    /// The fault after the last of them, or none where the end comes there.
+    ghost ending: { Self → Option Fault };
 
-    /// Removes and answers the first letter waiting; with none waiting, answers the ending, each time.
-    fn take(&mut self) -> Taken<Self::Letter>
+    /// Removes and answers the first letter waiting; with none waiting, answers the end or the fault, each time.
+    fn take(&mut self) -> Result<Option<Self::Letter>, Fault>
         ensures took { Took (waiting self.old) (ending self.old) result (waiting self.new) }
-        ensures ranged { Told Self.Of.Kind.ranged result }
+        ensures ranged { IfOk result (λ letter. IfSome letter Self.Of.Kind.ranged) }
         ensures same { ending self.new ≡ ending self.old };
 }

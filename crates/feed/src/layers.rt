@@ -1,10 +1,10 @@
 //! Layers over any feed: one that renames letters, and one that skips letters.
-ghost use Rattle.std.specs.Prelude.{◌≡◌, map};
-ghost use Rattle.feed.specs.Feeds.{Told, Took};
+ghost use Rattle.std.specs.Prelude.{◌≡◌, map, IfOk, IfSome};
+ghost use Rattle.feed.specs.Feeds.{Took};
 ghost use Rattle.feed.specs.Tables.{codes_of, pairs_of};
 ghost use Rattle.feed.specs.Layers.{kept, renamed};
 
-use crate::ending::Taken;
+use crate::fault::Fault;
 use crate::feed::Feed;
 use crate::tables::{RenameTable, SkipList};
 use alphabet::kind::Kind;
@@ -31,13 +31,10 @@ fn renamed_letter<K: Kind>(table: &RenameTable, letter: K::Letter) -> K::Letter
     ensures value { result ≡ renamed K.Kind.coded K.Kind.lettered (pairs_of table.now) letter }
     ensures ranged { K.Kind.ranged letter → K.Kind.ranged result }
 {
-    match table.target(K::code(letter)) {
-        Some(code) => match K::letter(code) {
-            Some(other) => other,
-            None => letter,
-        },
-        None => letter,
-    }
+    table
+        .target(K::code(letter))
+        .and_then(|code| K::letter(code))
+        .unwrap_or(letter)
 }
 
 impl<F: Feed> Feed for Rename<F> {
@@ -49,11 +46,9 @@ impl<F: Feed> Feed for Rename<F> {
 
     ghost ending = { λ s. F.Feed.ending s.below };
 
-    fn take(&mut self) -> Taken<F::Letter> {
-        match self.below.take() {
-            Taken::Letter(letter) => Taken::Letter(renamed_letter::<F::Of>(&self.table, letter)),
-            Taken::Ended(ending) => Taken::Ended(ending),
-        }
+    fn take(&mut self) -> Result<Option<F::Letter>, Fault> {
+        let letter = self.below.take()?;
+        Ok(letter.map(|letter| renamed_letter::<F::Of>(&self.table, letter)))
     }
 }
 
@@ -74,22 +69,18 @@ impl<F> Skip<F> {
     }
 }
 
-/// Takes until a letter comes that the list has not, or the ending.
-fn take_past<F: Feed>(feed: &mut F, list: &SkipList) -> Taken<F::Letter>
+/// Takes until a letter comes that the list has not, or the end or a fault.
+fn take_past<F: Feed>(feed: &mut F, list: &SkipList) -> Result<Option<F::Letter>, Fault>
     ensures took { Took (kept F.Of.Kind.coded (codes_of list.now) (F.Feed.waiting feed.old)) (F.Feed.ending feed.old) result (kept F.Of.Kind.coded (codes_of list.now) (F.Feed.waiting feed.new)) }
-    ensures ranged { Told F.Of.Kind.ranged result }
+    ensures ranged { IfOk result (λ letter. IfSome letter F.Of.Kind.ranged) }
     ensures same { F.Feed.ending feed.new ≡ F.Feed.ending feed.old }
 {
-    loop {
-        match feed.take() {
-            Taken::Letter(letter) => {
-                if !list.has(F::Of::code(letter)) {
-                    return Taken::Letter(letter);
-                }
-            }
-            Taken::Ended(ending) => return Taken::Ended(ending),
+    while let Some(letter) = feed.take()? {
+        if !list.has(F::Of::code(letter)) {
+            return Ok(Some(letter));
         }
     }
+    Ok(None)
 }
 
 impl<F: Feed> Feed for Skip<F> {
@@ -101,7 +92,7 @@ impl<F: Feed> Feed for Skip<F> {
 
     ghost ending = { λ s. F.Feed.ending s.below };
 
-    fn take(&mut self) -> Taken<F::Letter> {
+    fn take(&mut self) -> Result<Option<F::Letter>, Fault> {
         take_past(&mut self.below, &self.list)
     }
 }

@@ -1,9 +1,10 @@
-//! Feeds: letters that come one by one and then an ending that stays.
+//! Feeds: letters that come one by one and then the end or a fault, which stays.
 //! Here are the feeds of a field's bytes and of a file's lines, the layers that rename and skip, and gathering.
 #![tactic(auto)]
 
 pub mod byte_feed;
-pub mod ending;
+pub(crate) mod entries;
+pub mod fault;
 pub mod feed;
 pub mod gathering;
 pub mod layers;

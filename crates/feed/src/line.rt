@@ -1,13 +1,12 @@
 //! What one line of a meter file says.
-ghost use Rattle.std.specs.Prelude.{◌≡◌, ◌<◌, slice_index};
-ghost use Rattle.alphabet.specs.Codes.{class_of};
-ghost use Rattle.feed.specs.Line.{closes, digit, line_fault, mark_of, reading, stamp_at};
+ghost use Rattle.std.specs.Prelude.{◌≡◌, ◌<◌, slice_index, IfOk, IfSome};
+ghost use Rattle.feed.specs.Line.{closes, digit_at, line_fault, mark_of, number_digit, reading, stamp_at, two_at};
 
-use crate::ending::Fault;
+use crate::fault::Fault;
 use alphabet::mark::{Mark, Stamp};
 
 /// What is wrong with a line: no digit at this byte, from 1, of the record number, no bar after it, or no stamp.
-#[derive(Clone, Copy)]
+#[derive(Clone, Copy, Debug, PartialEq, Eq)]
 pub(crate) enum LineFault {
     NoDigit(usize),
     NoBar,
@@ -19,22 +18,15 @@ impl LineFault {
     pub(crate) fn on(self, line: usize) -> Fault
         ensures { result ≡ line_fault line self }
     {
-        match self {
-            LineFault::NoDigit(byte) => Fault {
-                number: 21,
-                first: line,
-                second: byte,
-            },
-            LineFault::NoBar => Fault {
-                number: 22,
-                first: line,
-                second: 4,
-            },
-            LineFault::NoStamp => Fault {
-                number: 23,
-                first: line,
-                second: 5,
-            },
+        let (number, byte) = match self {
+            LineFault::NoDigit(byte) => (21, byte),
+            LineFault::NoBar => (22, 4),
+            LineFault::NoStamp => (23, 5),
+        };
+        Fault {
+            number,
+            first: line,
+            second: byte,
         }
     }
 }
@@ -43,20 +35,31 @@ impl LineFault {
 fn byte_at(line: &[u8], i: usize) -> u8
     ensures { result ≡ slice_index line.now i }
 {
-    if i < line.len() { line[i] } else { 0 }
+    line.get(i).copied().unwrap_or(0)
 }
 
-fn is_digit(b: u8) -> bool
-    ensures { result ≡ digit b }
+/// The digit at byte `i`, or none where no digit stands there.
+fn digit_at(line: &[u8], i: usize) -> Option<u8>
+    ensures value { result ≡ digit_at line.now i }
+    ensures low { IfSome result (λ d. d < 10) }
 {
-    b >= b'0' && b <= b'9'
+    let byte = byte_at(line, i);
+    byte.is_ascii_digit().then(|| byte - b'0')
 }
 
 /// Whether the line ends before byte `i`, or has a bar there.
 fn is_closed(line: &[u8], i: usize) -> bool
     ensures { result ≡ closes line.now i }
 {
-    i >= line.len() || line[i] == b'|'
+    line.get(i).is_none_or(|byte| *byte == b'|')
+}
+
+/// The number of the two digits from byte `i` on, or none where one is missing.
+fn two_at(line: &[u8], i: usize) -> Option<u8>
+    requires { i < 9 }
+    ensures { result ≡ two_at line.now i }
+{
+    Some(10 * digit_at(line, i)? + digit_at(line, i + 1)?)
 }
 
 /// The stamp after the bar.
@@ -66,35 +69,27 @@ fn stamp(line: &[u8]) -> Option<Stamp>
     if is_closed(line, 4) {
         return Some(Stamp::Absent);
     }
-    let a = byte_at(line, 4);
-    let b = byte_at(line, 5);
-    let c = byte_at(line, 7);
-    let d = byte_at(line, 8);
-    if !(is_digit(a)
-        && is_digit(b)
-        && byte_at(line, 6) == b':'
-        && is_digit(c)
-        && is_digit(d)
-        && is_closed(line, 9))
-    {
+    let hour = two_at(line, 4)?;
+    let minute = two_at(line, 7)?;
+    if byte_at(line, 6) != b':' || !is_closed(line, 9) {
         return None;
     }
-    let hour = 10 * (a - b'0') + (b - b'0');
-    let minute = 10 * (c - b'0') + (d - b'0');
-    if minute == 0 && (hour == 0 || hour == 24) {
-        Some(Stamp::Midnight)
-    } else if hour < 24 && minute < 60 {
-        Some(Stamp::WithinDay)
-    } else {
-        None
+    match (hour, minute) {
+        (0 | 24, 0) => Some(Stamp::Midnight),
+        (0..=23, 0..=59) => Some(Stamp::WithinDay),
+        _ => None,
     }
 }
 
-/// The number of a stamp's class.
-fn class(stamp: Stamp) -> u16
-    ensures { result ≡ class_of stamp }
+/// The digit at byte `i` of a record number.
+fn number_digit(line: &[u8], i: usize) -> Result<u16, LineFault>
+    requires { i < 3 }
+    ensures value { result ≡ number_digit line.now i }
+    ensures low { IfOk result (λ d. d < 10) }
 {
-    stamp as u16
+    digit_at(line, i)
+        .map(u16::from)
+        .ok_or(LineFault::NoDigit(i + 1))
 }
 
 /// The mark of a record number and a stamp.
@@ -102,31 +97,19 @@ fn marked(number: u16, stamp: Stamp) -> Mark
     requires { number < 1000 }
     ensures { result ≡ mark_of number stamp }
 {
-    Mark::new(number, class(stamp)).unwrap()
+    Mark::stamped(number, stamp).unwrap()
 }
 
 /// The mark that a line says, or what is wrong with it first.
 pub(crate) fn read_line(line: &[u8]) -> Result<Mark, LineFault>
     ensures { result ≡ reading line.now }
 {
-    let a = byte_at(line, 0);
-    let b = byte_at(line, 1);
-    let c = byte_at(line, 2);
-    if !is_digit(a) {
-        return Err(LineFault::NoDigit(1));
-    }
-    if !is_digit(b) {
-        return Err(LineFault::NoDigit(2));
-    }
-    if !is_digit(c) {
-        return Err(LineFault::NoDigit(3));
-    }
+    let number = 100 * number_digit(line, 0)?
+        + 10 * number_digit(line, 1)?
+        + number_digit(line, 2)?;
     if byte_at(line, 3) != b'|' {
         return Err(LineFault::NoBar);
     }
-    let number = 100 * u16::from(a - b'0') + 10 * u16::from(b - b'0') + u16::from(c - b'0');
-    match stamp(line) {
-        Some(stamp) => Ok(marked(number, stamp)),
-        None => Err(LineFault::NoStamp),
-    }
+    let stamp = stamp(line).ok_or(LineFault::NoStamp)?;
+    Ok(marked(number, stamp))
 }

@@ -3,7 +3,7 @@ ghost use Rattle.std.specs.Prelude.{◌≡◌, ◌+◌, ◌≤◌, drop};
 ghost use Rattle.feed.specs.Lines.{line_ending, marks};
 ghost use Rattle.text.specs.Lines.{lines};
 
-use crate::ending::{Ending, Taken};
+use crate::fault::Fault;
 use crate::feed::Feed;
 use crate::line::read_line;
 use alphabet::mark::Mark;
@@ -11,6 +11,7 @@ use alphabet::marks::Marks;
 use text::lines::next_line;
 
 /// The lines of a file from a place on, the first of which has the number `line`, counted from 1.
+// Kept: the file with a place in it, not the part that is left: a rule of the project gives a line feed its place and line.
 #[derive(Drop)]
 pub struct LineFeed<'a> {
     file: &'a [u8],
@@ -42,17 +43,13 @@ impl<'a> Feed for LineFeed<'a> {
 
     ghost ending = { λ s. line_ending s.line (lines (drop s.place s.file.now)) };
 
-    fn take(&mut self) -> Taken<Mark> {
+    fn take(&mut self) -> Result<Option<Mark>, Fault> {
         let Some(line) = next_line(self.file, self.place) else {
-            return Taken::Ended(Ending::End);
+            return Ok(None);
         };
-        match read_line(line.bytes) {
-            Ok(mark) => {
-                self.place = line.next;
-                self.line += 1;
-                Taken::Letter(mark)
-            }
-            Err(fault) => Taken::Ended(Ending::Fault(fault.on(self.line))),
-        }
+        let mark = read_line(line.bytes).map_err(|fault| fault.on(self.line))?;
+        self.place = line.next;
+        self.line += 1;
+        Ok(Some(mark))
     }
 }

@@ -1,8 +1,10 @@
 //! Making the tables of the layers, and looking codes up in them.
-ghost use Rattle.std.specs.Prelude.{◌≡◌, ◌≤◌, [], length, take};
-ghost use Rattle.feed.specs.Tables.{codes_of, first_misfit, layer_fault, listed, misfit, pairs_of, rename_checked, skip_checked, target_of, with_table};
+ghost use Rattle.std.specs.Prelude.{◌≡◌};
+ghost use Rattle.feed.specs.Entries.{entries_of};
+ghost use Rattle.feed.specs.Tables.{codes_of, few_checked, first_misfit, layer_fault, listed, misfit, pairs_of, rename_checked, skip_checked, target_of, with_table};
 
-use crate::ending::Fault;
+use crate::entries::Entries;
+use crate::fault::Fault;
 use crate::tables::{LayerFault, MOST, Pair, RenameTable, SkipList};
 use alphabet::kind::Kind;
 
@@ -12,48 +14,55 @@ const BLANK: Pair = Pair {
     target: 0,
 };
 
-impl LayerFault {
+impl From<LayerFault> for Fault {
+    ghost from_gives = { λ refusal fault. fault ≡ layer_fault refusal };
+
     /// The refusal's number and its two values.
-    pub fn fault(self) -> Fault
-        ensures { result ≡ layer_fault self }
-    {
-        match self {
-            LayerFault::TooMany => Fault {
-                number: 43,
-                first: MOST,
-                second: 0,
-            },
-            LayerFault::Entry(entry) => Fault {
-                number: 43,
-                first: entry,
-                second: 0,
-            },
+    fn from(refusal: LayerFault) -> Fault {
+        let first = match refusal {
+            LayerFault::TooMany => MOST,
+            LayerFault::Entry(entry) => entry,
+        };
+        Fault {
+            number: 43,
+            first,
+            second: 0,
         }
     }
 }
 
-/// The items, followed by blanks.
-fn padded<T: Copy + Drop>(items: &[T], blank: T) -> [T; MOST]
-    requires { length items.now ≤ 32 }
-    ensures { take (length items.now) result ≡ items.now }
-{
-    let mut all = [blank; MOST];
-    for (i, item) in items.iter().enumerate() {
-        all[i] = *item;
+impl<T: Copy + Drop> Entries<T> {
+    /// These entries, with `blank` in the places past them.
+    fn new(entries: &[T], blank: T) -> Result<Entries<T>, LayerFault>
+        ensures { with_table entries_of result ≡ few_checked entries.now }
+    {
+        if entries.len() > MOST {
+            return Err(LayerFault::TooMany);
+        }
+        let mut items = [blank; MOST];
+        items[..entries.len()].copy_from_slice(entries);
+        Ok(Entries {
+            items,
+            count: entries.len(),
+        })
     }
-    all
+
+    /// The entries, in order.
+    fn as_slice(&self) -> &[T]
+        ensures { result.now ≡ entries_of self.now }
+    {
+        &self.items[..self.count]
+    }
 }
 
 /// The target of the first pair with this source.
 fn target(pairs: &[Pair], source: u16) -> Option<u16>
     ensures { result ≡ target_of pairs.now source }
 {
-    for pair in pairs {
-        if pair.source == source {
-            return Some(pair.target);
-        }
-    }
-    None
+    pairs
+        .iter()
+        .find(|pair| pair.source == source)
+        .map(|pair| pair.target)
 }
 
 /// Whether a pair cannot stand after these.
@@ -65,14 +74,12 @@ fn is_misfit<K: Kind>(before: &[Pair], pair: Pair) -> bool
 
 /// The first pair whose target is no letter, or whose source an earlier pair has.
 fn first_misfit<K: Kind>(pairs: &[Pair]) -> Option<usize>
-    ensures { result ≡ first_misfit K.Kind.lettered [] pairs.now }
+    ensures { result ≡ first_misfit K.Kind.lettered pairs.now }
 {
-    for (i, pair) in pairs.iter().enumerate() {
-        if is_misfit::<K>(&pairs[0..i], *pair) {
-            return Some(i);
-        }
-    }
-    None
+    pairs
+        .iter()
+        .enumerate()
+        .position(|(i, pair)| is_misfit::<K>(&pairs[..i], *pair))
 }
 
 impl RenameTable {
@@ -80,15 +87,12 @@ impl RenameTable {
     pub fn new<K: Kind>(pairs: &[Pair]) -> Result<RenameTable, LayerFault>
         ensures { with_table pairs_of result ≡ rename_checked K.Kind.lettered pairs.now }
     {
-        if pairs.len() > MOST {
-            return Err(LayerFault::TooMany);
-        }
+        let table = RenameTable {
+            pairs: Entries::new(pairs, BLANK)?,
+        };
         match first_misfit::<K>(pairs) {
             Some(entry) => Err(LayerFault::Entry(entry)),
-            None => Ok(RenameTable {
-                pairs: padded(pairs, BLANK),
-                count: pairs.len(),
-            }),
+            None => Ok(table),
         }
     }
 
@@ -96,7 +100,7 @@ impl RenameTable {
     pub(crate) fn target(&self, code: u16) -> Option<u16>
         ensures { result ≡ target_of (pairs_of self.now) code }
     {
-        target(&self.pairs[0..self.count], code)
+        target(self.pairs.as_slice(), code)
     }
 }
 
@@ -105,12 +109,8 @@ impl SkipList {
     pub fn new(codes: &[u16]) -> Result<SkipList, LayerFault>
         ensures { with_table codes_of result ≡ skip_checked codes.now }
     {
-        if codes.len() > MOST {
-            return Err(LayerFault::TooMany);
-        }
         Ok(SkipList {
-            codes: padded(codes, 0),
-            count: codes.len(),
+            codes: Entries::new(codes, 0)?,
         })
     }
 
@@ -118,11 +118,6 @@ impl SkipList {
     pub(crate) fn has(&self, code: u16) -> bool
         ensures { result ≡ listed (codes_of self.now) code }
     {
-        for c in &self.codes[0..self.count] {
-            if *c == code {
-                return true;
-            }
-        }
-        false
+        self.codes.as_slice().contains(&code)
     }
 }

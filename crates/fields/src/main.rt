@@ -1,14 +1,10 @@
 //! Runs a script over bytes, from standard input to standard output.
 #![tactic(auto)]
 
-use script::input::{read_feed, read_text};
-use script::running::run_bytes;
+use alphabet::bytes::Bytes;
+use script::program::run_program;
 use std::io;
-use std::io::Write;
 
 fn main(rt: HostRuntime) -> io::Result<()> {
-    let script = read_text(rt.alloc(), rt.stdin())?;
-    let feed = read_feed(&rt)?;
-    let out = run_bytes(rt.alloc(), &script, &feed)?;
-    rt.stdout().write_all(&out)
+    run_program::<Bytes, _>(&rt, &mut rt.stdout())
 }

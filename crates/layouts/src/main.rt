@@ -1,14 +1,10 @@
 //! Runs a script over marks, from standard input to standard output.
 #![tactic(auto)]
 
-use script::input::{read_feed, read_text};
-use script::running::run_marks;
+use alphabet::marks::Marks;
+use script::program::run_program;
 use std::io;
-use std::io::Write;
 
 fn main(rt: HostRuntime) -> io::Result<()> {
-    let script = read_text(rt.alloc(), rt.stdin())?;
-    let feed = read_feed(&rt)?;
-    let out = run_marks(rt.alloc(), &script, &feed)?;
-    rt.stdout().write_all(&out)
+    run_program::<Marks, _>(&rt, &mut rt.stdout())
 }

@@ -8,22 +8,21 @@ use matching::fault::MatchFault;
 use matching::reading::first_tree;
 use std::alloc::{AllocError, Global};
 use std::io;
+use std::iter::{once, repeat_n};
 use std::time::Instant;
 
 /// The letters `a`, as many as `letters`, and then `b`, joined from the right by nodes of one kind, and then as many stars as `stars`.
-fn table(heap: Global, letters: u8, join: RawNode, stars: u8) -> Result<Vec<RawNode>, AllocError> {
-    let mut table = Vec::new(heap);
-    for _ in 0..letters {
-        table.push(RawNode::Letter(97))?;
-    }
-    table.push(RawNode::Letter(98))?;
-    for _ in 0..letters {
-        table.push(join)?;
-    }
-    for _ in 0..stars {
-        table.push(RawNode::Star)?;
-    }
-    Ok(table)
+fn table(
+    heap: Global,
+    letters: usize,
+    join: RawNode,
+    stars: usize,
+) -> Result<Vec<RawNode>, AllocError> {
+    repeat_n(RawNode::Letter(97), letters)
+        .chain(once(RawNode::Letter(98)))
+        .chain(repeat_n(join, letters))
+        .chain(repeat_n(RawNode::Star, stars))
+        .collect(heap)
 }
 
 /// Reads `count` letters `b` under a layout.
@@ -48,8 +47,9 @@ fn main(rt: HostRuntime) -> io::Result<()> {
     let Ok(list) = Layout::new::<Bytes>(heap, &table(heap, 126, RawNode::Or, 2)?) else {
         return println!(rt; "no layout");
     };
-    measure(&rt, &pairs, 4096)?;
-    measure(&rt, &list, 4096)?;
-    measure(&rt, &pairs, 1024)?;
-    measure(&rt, &list, 1024)
+    for count in [4096, 1024] {
+        measure(&rt, &pairs, count)?;
+        measure(&rt, &list, count)?;
+    }
+    Ok(())
 }

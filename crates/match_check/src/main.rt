@@ -10,13 +10,8 @@ use matching::reading::first_tree;
 use std::alloc::{AllocError, Global};
 use std::io;
 
-#[derive(Drop)]
-struct Case {
-    table: Vec<RawNode>,
-    word: Vec<u8>,
-}
-
 /// The node that a byte stands for.
+// Kept: both types are of other crates, so a From would need a type of its own here, which is no plainer.
 fn node(byte: u8) -> RawNode {
     match byte {
         b'1' => RawNode::Empty,
@@ -27,45 +22,30 @@ fn node(byte: u8) -> RawNode {
     }
 }
 
-/// The case that a line states.
-fn parse(heap: Global, line: &str) -> Result<Case, AllocError> {
-    let mut table = Vec::new(heap);
-    let mut word = Vec::new(heap);
-    let mut spelling = false;
-    for byte in line.bytes() {
-        if spelling {
-            word.push(byte)?;
-        } else if byte == b' ' {
-            spelling = true;
-        } else {
-            table.push(node(byte))?;
-        }
-    }
-    Ok(Case { table, word })
+/// The table of an expression in postfix.
+fn table(heap: Global, postfix: &str) -> Result<Vec<RawNode>, AllocError> {
+    postfix.bytes().map(node).collect(heap)
 }
 
-/// Writes each of some bytes, 0 or 1, as a digit.
-fn write_digits(text: &mut String, bits: &[u8]) -> Result<(), AllocError> {
-    for bit in bits {
-        text.push(if *bit == 0 { '0' } else { '1' })?;
-    }
-    Ok(())
+/// The digit of a byte that is 0 or 1.
+fn digit(bit: u8) -> char {
+    if bit == 0 { '0' } else { '1' }
 }
 
 /// What is answered to a case.
-fn answer(heap: Global, case: &Case) -> Result<String, AllocError> {
+fn answer(heap: Global, table: &[RawNode], word: &[u8]) -> Result<String, AllocError> {
     let mut text = String::new(heap);
-    let Ok(layout) = Layout::new::<Bytes>(heap, &case.table) else {
+    let Ok(layout) = Layout::new::<Bytes>(heap, table) else {
         text.push_str("no layout")?;
         return Ok(text);
     };
     let mut work = [0; 512];
     let mut turns = [0; 128];
-    match first_tree::<Bytes>(&layout, &case.word, &mut work, &mut turns) {
+    match first_tree::<Bytes>(&layout, word, &mut work, &mut turns) {
         Ok(count) => {
             text.push_str("turns ")?;
             for turn in turns.iter().take(count) {
-                text.push(if *turn == 0 { '0' } else { '1' })?;
+                text.push(digit(*turn))?;
             }
         }
         Err(MatchFault::NoWord(_)) => text.push_str("no word")?,
@@ -73,17 +53,21 @@ fn answer(heap: Global, case: &Case) -> Result<String, AllocError> {
     }
     text.push_str(", work")?;
     let width = usize::from(layout.places()) + 1;
-    for row in work.chunks(width).take(case.word.len().saturating_add(1)) {
+    for row in work.chunks(width).take(word.len().saturating_add(1)) {
         text.push(' ')?;
-        write_digits(&mut text, row)?;
+        for bit in row {
+            text.push(digit(*bit))?;
+        }
     }
     Ok(text)
 }
 
 fn main(rt: HostRuntime) -> io::Result<()> {
-    for line in rt.lines(rt.alloc()) {
+    let heap = rt.alloc();
+    for line in rt.lines(heap) {
         let line = line?;
-        let answer = answer(rt.alloc(), &parse(rt.alloc(), &line)?)?;
+        let (postfix, word) = line.split_once(' ').unwrap_or((&line, ""));
+        let answer = answer(heap, &table(heap, postfix)?, word.as_bytes())?;
         println!(rt; "{line}: {answer}")?;
     }
     Ok(())

@@ -1,9 +1,10 @@
+mod Filling
 mod Holding
 mod Legs
 mod Passes
 mod RowLaws
-mod StepLaws
-mod Leaving
-mod Weights
-mod WalkLaws
 mod Telling
+mod Turned
+mod WalkLaws
+mod Ways
+mod Weights

@@ -1,61 +1,41 @@
 -- The two passes over the nodes for one letter.
-use Rattle.std.proofs.Common.{◌≡◌, ℕ, suc, ◌+◌, ◌<◌, ◌≤◌, Bool, true, false, eqb, ltb, ◌≢◌, List, [], ◌∷◌, ◌++◌, map, length, get_or, set, sym, refl, ap, ◌∙◌, arith, length-append, get_or-set_other, get_or-set_same, le-ltb, eqb-true}
+use Rattle.std.proofs.Common.{◌≡◌, ℕ, suc, ◌+◌, ◌<◌, ◌≤◌, Bool, true, false, eqb, ◌≢◌, List, [], ◌∷◌, ◌++◌, map, length, get_or, set, replicate, sym, refl, ap, ◌∙◌, arith, length-append, get_or-set_other, get_or-set_same, eqb-true}
+use mathlib.Core.Bool.{and-false}
 use mathlib.Core.List.{map-map}
 use borrow.Author.Tests.{eqb-false}
-use lib.ListN.{get_or-eq_default}
-use Rattle.std.proofs.lemmas.List.{map-append, length-map}
+use Rattle.std.proofs.lemmas.List.{map-append, length-map, get_or-replicate}
 use Rattle.expression.specs.Expressions.{Expr, letter, empty, pair, or, star}
 use Rattle.expression.specs.Places.{letter_count, Item, item, continuations}
-use Rattle.expression.specs.Nodes.{node}
+use Rattle.expression.specs.Layouts.{nodes_of}
+use Rattle.expression.specs.Spelling.{written as lay}
+use Rattle.expression.specs.declared.layout.Layout.{Layout}
 use Rattle.expression.specs.declared.node.Node.{Node}
-use Rattle.expression.specs.declared.node.Shape.{Shape}
-use Rattle.expression.specs.declared.node.Shape.TheVariants.{Letter, Empty, Pair, Or, Star}
-use Rattle.matching.specs.Holding.{held, Two, Made, Sound}
+use Rattle.expression.specs.declared.node.Shape.TheVariants.{Pair, Or, Star}
+use Rattle.expression.proofs.Writing.{written_append}
+use Rattle.matching.specs.Holding.{held, Tells}
 use Rattle.matching.specs.Rows.{bit}
-use Rattle.matching.proofs.Holding.{made_at}
-use Rattle.matching.specs.Passes.{enters, enters_in, reaches, usable_at, enters_by, Entries, onward_at, lay, bits, Spread}
+use Rattle.matching.specs.Passes.{enters, enters_in, reaches, usable, Entries, bits, bits_in}
+use Rattle.matching.proofs.Holding.{made_as}
 
-pub past_end : (work : List ℕ) (base p : ℕ) → length work ≤ base + p → ltb (base + p) (length work) ≡ usable_at work base p
-past_end work base p h = rw (le-ltb (base + p) (length work) h, get_or-eq_default work 0 h)
+-- Where no place can finish what comes next, nothing can be entered.
+pub enters_none : (a o : ℕ) (e : Expr) → enters a (usable []) o e ≡ false
+enters_none a o (letter c) = and-false (eqb a c)
+enters_none a o empty = refl
+enters_none a o (pair e f) = rw (enters_none a o e, enters_none a (o + letter_count e) f, and-false)
+enters_none a o (or e f) = rw (enters_none a o e, enters_none a (o + letter_count e) f)
+enters_none a o (star e) = enters_none a o e
 
--- The first pass.
-module _ (ns : List Node) (sound : Sound ns) (a : ℕ) (next : ℕ → Bool) (en : List Bool) (i : ℕ) (h : i < length ns) (below : Entries ns a next en i) where
-  enter_two : (c : Expr → Expr → Expr) → Two ns i (node ns i) c
-      → (get_or en (node ns i).first false ≡ enters a next (held ns i).before (held ns (node ns i).first).expr)
-      × (get_or en (node ns i).second false ≡ enters a next ((held ns i).before + letter_count (held ns (node ns i).first).expr) (held ns (node ns i).second).expr)
-  enter_two c t = (
-    below (node ns i).first t.first_low ∙ ap (λ (o : ℕ). enters a next o (held ns (node ns i).first).expr) t.first_before,
-    below (node ns i).second t.second_low ∙ ap (λ (o : ℕ). enters a next o (held ns (node ns i).second).expr) t.second_before,
-  )
+pub entries_none : (l : Layout) → length (nodes_of l) ≤ 255 → Entries l 0 [] (replicate 256 false) (length (nodes_of l))
+entries_none l h j b = get_or-replicate 256 j false false (omega arith) ∙ sym (enters_none 0 (held l j).before (held l j).expr)
 
-  enter_right : (s : Shape) → Made ns i (node ns i) s → enters_by ns en a next (node ns i) s ≡ enters_in a next (held ns i)
-  enter_right Letter m =
-      let l : (node ns i).letters ≡ suc (held ns i).before = (let z = ap letter_count m in omega (arith, sound.letters i h)) in rw (m, l)
-  enter_right Empty m = rw m
-  enter_right Pair m =
-      let x = enter_two pair m in
-      let f : (node ns i).first < length ns = (let z = m.first_low in omega arith) in
-      rw (m.is, x.0, x.1, sound.admits (node ns i).first f)
-  enter_right Or m = let x = enter_two or m in rw (m.is, x.0, x.1)
-  enter_right Star m = rw m.is (below (node ns i).second m.low ∙ ap (λ (o : ℕ). enters a next o (held ns (node ns i).second).expr) m.before)
-
-  pub enter_more : (value : Bool) → value ≡ enters_by ns en a next (node ns i) (node ns i).shape → i < length en → Entries ns a next (set en i value) (i + 1)
-  enter_more value v l j b = go (eqb j i) refl
-    where
-      go : (b : Bool) → eqb j i ≡ b → get_or (set en i value) j false ≡ enters_in a next (held ns j)
-      go true q = let eq : j ≡ i = eqb-true j i q in rw (eq, get_or-set_same) (v ∙ enter_right (node ns i).shape (sound.made i h))
-      go false q = let ne : j ≢ i = eqb-false j i q in rw get_or-set_other (below j (omega (arith, ne)))
-
--- Written lists.
-pub lay_append : (xs ys : List ℕ) (n : ℕ) (buffer : List ℕ) → lay (xs ++ ys) n buffer ≡ lay ys (n + length xs) (lay xs n buffer)
-lay_append [] ys n buffer = ap (λ (m : ℕ). lay ys m buffer) (zero_add n)
+-- One more node is told.
+pub enter_more : (l : Layout) (a : ℕ) (next : List ℕ) (told : List Bool) (i at : ℕ) → Entries l a next told i → at ≡ i → i < length told → (value : Bool) → value ≡ enters_in a (usable next) (held l i)
+    → Entries l a next (set told at value) (i + 1)
+enter_more l a next told i at below is b value v j c = go (eqb j i) refl
   where
-    zero_add : (m : ℕ) → m ≡ m + 0
-    zero_add m = omega arith
-lay_append (x ∷ xs) ys n buffer = lay_append xs ys (n + 1) (set buffer n x) ∙ ap (λ (m : ℕ). lay ys m (lay xs (n + 1) (set buffer n x))) (move (length xs))
-  where
-    move : (l : ℕ) → (n + 1) + l ≡ n + suc l
-    move l = omega arith
+    go : (q : Bool) → eqb j i ≡ q → get_or (set told at value) j false ≡ enters_in a (usable next) (held l j)
+    go true q = let eq : j ≡ i = eqb-true j i q in rw (is, eq, get_or-set_same) v
+    go false q = let ne : j ≢ i = eqb-false j i q in rw (is, get_or-set_other) (below j (omega (arith, ne)))
 
 -- What is to come after a place inside e goes on with what is to come after e.
 pub continuations_append : (o : ℕ) (e : Expr) (k l : List Item) → continuations o e (k ++ l) ≡ map (λ x. x ++ l) (continuations o e k)
@@ -75,11 +55,11 @@ count_continuations o (pair e f) k =
 count_continuations o (or e f) k = length-append (continuations o e k) _ ∙ rw (count_continuations o e k, count_continuations (o + letter_count e) f k)
 count_continuations o (star e) k = count_continuations o e (item o (star e) ∷ k)
 
-count_bits : (a : ℕ) (next : ℕ → Bool) (on : Bool) (o : ℕ) (e : Expr) → length (bits a next on (continuations o e [])) ≡ letter_count e
-count_bits a next on o e = length-map (continuations o e []) _ ∙ count_continuations o e []
-
 -- The second pass.
 module _ (a : ℕ) (next : ℕ → Bool) (on : Bool) where
+  count_bits : (o : ℕ) (e : Expr) → length (bits a next on (continuations o e [])) ≡ letter_count e
+  count_bits o e = length-map (continuations o e []) _ ∙ count_continuations o e []
+
   reaches_append : (k l : List Item) → reaches a next (k ++ l) on ≡ reaches a next k (reaches a next l on)
   reaches_append [] l = refl
   reaches_append (x ∷ k) l = rw (reaches_append k l)
@@ -92,52 +72,31 @@ module _ (a : ℕ) (next : ℕ → Bool) (on : Bool) where
       same [] = refl
       same (k ∷ l) = rw (reaches_append k (x ∷ []), same l)
 
-  -- Two lists, written one after the other.
-  lay_two : (x y : List ℕ) (base o m b : ℕ) (u v w : List ℕ) → length x ≡ m → b ≡ o + m → v ≡ lay x (base + suc o) u → w ≡ lay y (base + suc b) v → w ≡ lay (x ++ y) (base + suc o) u
-  lay_two x y base o m b u v w l q p r =
-      let z : base + suc b ≡ (base + suc o) + length x = omega arith in r ∙ rw (z, p) (sym (lay_append x y (base + suc o) u))
+-- Two lists, written one after the other.
+lay_two : (x y : List ℕ) (o m b : ℕ) (u v w : List ℕ) → length x ≡ m → b ≡ o + m → v ≡ lay x (suc o) u → w ≡ lay y (suc b) v → w ≡ lay (x ++ y) (suc o) u
+lay_two x y o m b u v w l q p r = let z : suc b ≡ suc o + length x = omega arith in r ∙ rw (z, p) (sym (written_append x y (suc o) u))
 
-  -- The bytes of the places inside a node, from those inside its children.
-  module _ (base o o₁ o₂ : ℕ) (e e₁ e₂ : Expr) (u v w : List ℕ) where
-    bytes_pair : e ≡ pair e₁ e₂ → o₁ ≡ o → o₂ ≡ o + letter_count e₁
-        → v ≡ lay (bits a next (reaches a next (item o₂ e₂ ∷ []) on) (continuations o₁ e₁ [])) (base + suc o₁) u
-        → w ≡ lay (bits a next on (continuations o₂ e₂ [])) (base + suc o₂) v → w ≡ lay (bits a next on (continuations o e [])) (base + suc o) u
-    bytes_pair s q₁ q₂ p r =
-        rw (s, ← q₂, map-append, bits_before o e₁ (item o₂ e₂))
-        (lay_two _ _ base o (letter_count e₁) o₂ u v w (count_bits a next _ o e₁) q₂ (rw q₁ at p) r)
+-- The bytes of the places inside a node.
+module _ {l : Layout} {i : ℕ} {n : Node} (here : Tells l i n) (a : ℕ) (next : ℕ → Bool) (on : Bool) where
+  abbrev Spread : Bool → ℕ → List ℕ → List ℕ → Type 0
+  Spread o j old new = new ≡ lay (bits_in a next o (held l j)) (suc (held l j).before) old
 
-    bytes_or : e ≡ or e₁ e₂ → o₁ ≡ o → o₂ ≡ o + letter_count e₁ → v ≡ lay (bits a next on (continuations o₁ e₁ [])) (base + suc o₁) u
-        → w ≡ lay (bits a next on (continuations o₂ e₂ [])) (base + suc o₂) v → w ≡ lay (bits a next on (continuations o e [])) (base + suc o) u
-    bytes_or s q₁ q₂ p r =
-        rw (s, ← q₂, map-append) (lay_two _ _ base o (letter_count e₁) o₂ u v w (count_bits a next on o e₁) q₂ (rw q₁ at p) r)
+  pub spread_pair : {j k : ℕ} → n.shape ≡ Pair j k → (after : Bool) → after ≡ reaches a next (held l k ∷ []) on → (u v w : List ℕ) → Spread after j u v → Spread on k v w → Spread on i u w
+  spread_pair {j} {k} q after f u v w p r =
+      let t = made_as here q in
+      rw (t.is, ← t.second_before, map-append, bits_before a next on (held l i).before (held l j).expr (held l k), ← f)
+      (lay_two _ _ (held l i).before (letter_count (held l j).expr) (held l k).before u v w (count_bits a next after (held l i).before (held l j).expr) t.second_before
+      (rw t.first_before at p) r)
 
-    bytes_star : e ≡ star e₂ → o₂ ≡ o → w ≡ lay (bits a next (reaches a next (item o e ∷ []) on) (continuations o₂ e₂ [])) (base + suc o₂) u
-        → w ≡ lay (bits a next on (continuations o e [])) (base + suc o) u
-    bytes_star s q r = rw (s, bits_before o e₂ (item o (star e₂))) (rw (q, s) at r)
+  pub spread_or : {j k : ℕ} → n.shape ≡ Or j k → (u v w : List ℕ) → Spread on j u v → Spread on k v w → Spread on i u w
+  spread_or {j} {k} q u v w p r =
+      let t = made_as here q in
+      rw (t.is, ← t.second_before, map-append)
+      (lay_two _ _ (held l i).before (letter_count (held l j).expr) (held l k).before u v w (count_bits a next on (held l i).before (held l j).expr) t.second_before
+      (rw t.first_before at p) r)
 
-module _ (ns : List Node) (sound : Sound ns) (en : List Bool) where
-  -- What is to come after the first child of a pair, or after the child of a star.
-  pub onward_right : (i : ℕ) → i < length ns → (on : Bool) (a : ℕ) (next : ℕ → Bool) → Entries ns a next en (length ns) → onward_at ns en i on ≡ reaches a next (held ns i ∷ []) on
-  onward_right i h on a next all = rw (all i h, sound.admits i h)
-
-  module _ (i : ℕ) (h : i < length ns) (n : Node) (is : n ≡ node ns i) (on : Bool) (base : ℕ) (u v w : List ℕ) where
-    pub spread_pair : n.shape ≡ Pair → (after : Bool) → after ≡ onward_at ns en n.second on → Spread ns en n.first after base u v → Spread ns en n.second on base v w → Spread ns en i on base u w
-    spread_pair k after q p r a next all =
-        let t = made_at ns sound i h n is Pair k in
-        let z : n.second < length ns = (let y = t.second_low in omega arith) in
-        let q' : after ≡ reaches a next (held ns n.second ∷ []) on = q ∙ onward_right n.second z on a next all in
-        bytes_pair a next on base (held ns i).before (held ns n.first).before (held ns n.second).before (held ns i).expr (held ns n.first).expr (held ns n.second).expr u v w
-        t.is t.first_before t.second_before (rw (← q') (p a next all)) (r a next all)
-
-    pub spread_or : n.shape ≡ Or → Spread ns en n.first on base u v → Spread ns en n.second on base v w → Spread ns en i on base u w
-    spread_or k p r a next all =
-        let t = made_at ns sound i h n is Or k in
-        bytes_or a next on base (held ns i).before (held ns n.first).before (held ns n.second).before (held ns i).expr (held ns n.first).expr (held ns n.second).expr u v w
-        t.is t.first_before t.second_before (p a next all) (r a next all)
-
-    pub spread_star : n.shape ≡ Star → (again : Bool) → again ≡ onward_at ns en i on → Spread ns en n.second again base u w → Spread ns en i on base u w
-    spread_star k again q r a next all =
-        let t = made_at ns sound i h n is Star k in
-        let q' : again ≡ reaches a next (held ns i ∷ []) on = q ∙ onward_right i h on a next all in
-        bytes_star a next on base (held ns i).before 0 (held ns n.second).before (held ns i).expr empty (held ns n.second).expr u v w
-        t.is t.before (rw (← q') (r a next all))
+  pub spread_star : {j : ℕ} → n.shape ≡ Star j → (again : Bool) → again ≡ reaches a next (held l i ∷ []) on → (u w : List ℕ) → Spread again j u w → Spread on i u w
+  spread_star {j} q again f u w r =
+      let t = made_as here q in
+      let f' : again ≡ reaches a next (item (held l i).before (star (held l j).expr) ∷ []) on = f ∙ ap (λ (e : Expr). reaches a next (item (held l i).before e ∷ []) on) t.is in
+      rw (t.is, bits_before a next on (held l i).before (held l j).expr (item (held l i).before (star (held l j).expr)), ← f') (rw t.before at r)

@@ -1,32 +1,23 @@
 -- How many turns a leg has at most.
 use Rattle.std.proofs.Common.{ℕ, zero, suc, ◌+◌, ◌*◌, ◌≤◌, Bool, true, false, cond, List, [], ◌∷◌, length, add-mul, arith, length-append}
 use Prim.{tt}
-use Rattle.expression.specs.Expressions.{Expr, letter, empty, pair, or, star, admits_empty}
+use Rattle.expression.specs.Expressions.{Expr, letter, empty, pair, or, star}
 use Rattle.expression.specs.Members.{Each}
 use Rattle.expression.specs.Places.{letter_count, Item, item, continuations, continuation}
 use Rattle.expression.proofs.Members.{each_append, each_at}
-use Rattle.matching.specs.Holding.{size}
+use Rattle.expression.specs.Coming.{size}
+use Rattle.expression.proofs.EmptyTurns.{blank_few}
 use Rattle.matching.specs.Passes.{enters, enters_in}
-use Rattle.matching.specs.Legs.{empty_turns, Leg, then, route, leg, rest_turns}
+use Rattle.matching.specs.Turned.{blank}
+use Rattle.matching.specs.Legs.{Leg, behind, route, leg, rest_turns}
 
 -- The number of nodes that items take.
 abbrev weight : List Item → ℕ
 weight [] = 0
 weight (x ∷ k) = size x.expr + weight k
 
-empty_length : (e : Expr) → length (empty_turns e) ≤ size e
-empty_length (letter a) = omega arith
-empty_length empty = omega arith
-empty_length (pair e f) = let x = empty_length e in let y = empty_length f in omega (arith, length-append (empty_turns e) (empty_turns f))
-empty_length (or e f) = go (admits_empty e) (empty_length e) (empty_length f)
-  where
-    go : (b : Bool) → length (empty_turns e) ≤ size e → length (empty_turns f) ≤ size f → length (cond b (0 ∷ empty_turns e) (1 ∷ empty_turns f)) ≤ (size e + size f) + 1
-    go true x y = omega arith
-    go false x y = omega arith
-empty_length (star e) = omega arith
-
-then_short : (l : List ℕ) (g : Leg) (a b n : ℕ) → length l ≤ a → length g.turned ≤ b → a + b ≤ n → length (then l g).turned ≤ n
-then_short l g a b n p q r = omega (arith, length-append l g.turned)
+behind_short : (l : List ℕ) (g : Leg) (a b n : ℕ) → length l ≤ a → length g.turned ≤ b → a + b ≤ n → length (behind l g).turned ≤ n
+behind_short l g a b n p q r = omega (arith, length-append l g.turned)
 
 either : (c : Bool) (g h : Leg) (n : ℕ) → length g.turned ≤ n → length h.turned ≤ n → length (cond c g h).turned ≤ n
 either true g h n p q = p
@@ -38,22 +29,22 @@ module _ (a : ℕ) (next : ℕ → Bool) where
   route_short o empty = omega arith
   route_short o (pair e f) =
       let x = route_short o e in let y = route_short (o + letter_count e) f in
-      either (enters a next o e) _ _ _ (omega arith) (then_short (empty_turns e) (route a next (o + letter_count e) f) _ _ _ (empty_length e) y (omega arith))
+      either (enters a next o e) _ _ _ (omega arith) (behind_short (blank e) (route a next (o + letter_count e) f) _ _ _ (blank_few e) y (omega arith))
   route_short o (or e f) =
       let x = route_short o e in let y = route_short (o + letter_count e) f in
-      either (enters a next o e) _ _ _ (then_short (0 ∷ []) (route a next o e) 1 _ _ (omega arith) x (omega arith))
-      (then_short (1 ∷ []) (route a next (o + letter_count e) f) 1 _ _ (omega arith) y (omega arith))
-  route_short o (star e) = then_short (0 ∷ []) (route a next o e) 1 _ _ (omega arith) (route_short o e) (omega arith)
+      either (enters a next o e) _ _ _ (behind_short (0 ∷ []) (route a next o e) 1 _ _ (omega arith) x (omega arith))
+      (behind_short (1 ∷ []) (route a next (o + letter_count e) f) 1 _ _ (omega arith) y (omega arith))
+  route_short o (star e) = behind_short (0 ∷ []) (route a next o e) 1 _ _ (omega arith) (route_short o e) (omega arith)
 
   leg_short : (k : List Item) → length (leg a next k).turned ≤ weight k
   leg_short [] = omega arith
   leg_short (x ∷ k) =
       let y = route_short x.before x.expr in
-      either (enters_in a next x) _ _ _ (omega arith) (then_short (empty_turns x.expr) (leg a next k) _ _ _ (empty_length x.expr) (leg_short k) (omega arith))
+      either (enters_in a next x) _ _ _ (omega arith) (behind_short (blank x.expr) (leg a next k) _ _ _ (blank_few x.expr) (leg_short k) (omega arith))
 
 rest_short : (k : List Item) → length (rest_turns k) ≤ weight k
 rest_short [] = omega arith
-rest_short (x ∷ k) = let y = empty_length x.expr in let z = rest_short k in omega (arith, length-append (empty_turns x.expr) (rest_turns k))
+rest_short (x ∷ k) = let y = blank_few x.expr in let z = rest_short k in omega (arith, length-append (blank x.expr) (rest_turns k))
 
 abbrev Light : ℕ → List Item → Type 0
 Light n k = weight k ≤ n

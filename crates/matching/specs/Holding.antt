@@ -1,57 +1,48 @@
 -- The part of the expression that each node of a layout holds. This serves the proofs only.
-use Rattle.std.specs.Prelude.{◌≡◌, ℕ, ◌+◌, ◌<◌, ◌≤◌, List, length}
+use Rattle.std.specs.Prelude.{◌≡◌, ℕ, ◌+◌, ◌<◌}
 use Rattle.expression.specs.Expressions.{Expr, letter, empty, pair, or, star, admits_empty}
 use Rattle.expression.specs.Places.{letter_count, Item, item}
 use Rattle.expression.specs.Nodes.{node, last, expr_at}
 use Rattle.expression.specs.Fitted.{letters_to}
+use Rattle.expression.specs.Layouts.{nodes_of}
+use Rattle.expression.specs.declared.layout.Layout.{Layout}
 use Rattle.expression.specs.declared.node.Node.{Node}
 use Rattle.expression.specs.declared.node.Shape.{Shape}
 use Rattle.expression.specs.declared.node.Shape.TheVariants.{Letter, Empty, Pair, Or, Star}
 
--- The part that node i holds.
-unfoldable pub held : List Node → ℕ → Item
-held ns i = item (letters_to ns (node ns i).start) (expr_at ns i)
+-- The part that the node with number i holds.
+unfoldable pub held : Layout → ℕ → Item
+held l i = item (letters_to (nodes_of l) (node (nodes_of l) i).start) (expr_at (nodes_of l) i)
 
--- A node n, with number i, over two others.
-pub record Two (ns : List Node) (i : ℕ) (n : Node) (c : Expr → Expr → Expr) : Type 0 where
-  pub first_low : n.first < i
-  pub second_low : n.second < i
-  pub is : (held ns i).expr ≡ c (held ns n.first).expr (held ns n.second).expr
-  pub first_before : (held ns n.first).before ≡ (held ns i).before
-  pub second_before : (held ns n.second).before ≡ (held ns i).before + letter_count (held ns n.first).expr
+-- The expression of the last node, which is that of the layout.
+abbrev pub whole : Layout → Expr
+whole l = (held l (last (nodes_of l))).expr
 
--- A node over one other.
-pub record One (ns : List Node) (i : ℕ) (n : Node) : Type 0 where
-  pub low : n.second < i
-  pub is : (held ns i).expr ≡ star (held ns n.second).expr
-  pub before : (held ns n.second).before ≡ (held ns i).before
+-- Node i holds the parts of two others, j and k, one after the other, joined by c.
+pub record Two (l : Layout) (i j k : ℕ) (c : Expr → Expr → Expr) : Type 0 where
+  pub first_low : j < i
+  pub second_low : k < i
+  pub is : (held l i).expr ≡ c (held l j).expr (held l k).expr
+  pub first_before : (held l j).before ≡ (held l i).before
+  pub second_before : (held l k).before ≡ (held l i).before + letter_count (held l j).expr
 
--- How the part of a node is made of its children's, by its shape.
-abbrev pub Made : List Node → ℕ → Node → Shape → Type 0
-Made ns i n Letter = (held ns i).expr ≡ letter n.code
-Made ns i n Empty = (held ns i).expr ≡ empty
-Made ns i n Pair = Two ns i n pair
-Made ns i n Or = Two ns i n or
-Made ns i n Star = One ns i n
+-- Node i holds a list of the part of one other, j.
+pub record One (l : Layout) (i j : ℕ) : Type 0 where
+  pub low : j < i
+  pub is : (held l i).expr ≡ star (held l j).expr
+  pub before : (held l j).before ≡ (held l i).before
 
--- The number of nodes that an expression takes.
-abbrev pub size : Expr → ℕ
-size (letter c) = 1
-size empty = 1
-size (pair e f) = (size e + size f) + 1
-size (or e f) = (size e + size f) + 1
-size (star e) = size e + 1
+-- How the part of node i is made of its children's, by its shape.
+abbrev pub Made : Layout → ℕ → Shape → Type 0
+Made l i (Letter c) = (held l i).expr ≡ letter c
+Made l i Empty = (held l i).expr ≡ empty
+Made l i (Pair j k) = Two l i j k pair
+Made l i (Or j k) = Two l i j k or
+Made l i (Star j) = One l i j
 
--- The expression of the last node.
-abbrev pub whole : List Node → Expr
-whole ns = (held ns (last ns)).expr
-
--- What is known of the nodes of a layout.
-pub record Sound (ns : List Node) : Type 0 where
-  pub some : 0 < length ns
-  pub short : length ns ≤ 255
-  pub root : held ns (last ns) ≡ item 0 (whole ns)
-  pub small : size (whole ns) ≤ 255
-  pub made : (i : ℕ) → i < length ns → Made ns i (node ns i) (node ns i).shape
-  pub admits : (i : ℕ) → i < length ns → (node ns i).admits ≡ admits_empty (held ns i).expr
-  pub letters : (i : ℕ) → i < length ns → (node ns i).letters ≡ (held ns i).before + letter_count (held ns i).expr
+-- What node i, which is n, tells of its part.
+pub record Tells (l : Layout) (i : ℕ) (n : Node) : Type 0 where
+  pub is : n ≡ node (nodes_of l) i
+  pub made : Made l i n.shape
+  pub admits : n.admits ≡ admits_empty (held l i).expr
+  pub letters : n.letters ≡ (held l i).before + letter_count (held l i).expr

@@ -3,5 +3,6 @@ pub mod Rows
 pub mod Outcomes
 pub mod Holding
 pub mod Passes
+pub mod Turned
 pub mod Legs
 pub mod Walked

@@ -1,6 +1,5 @@
 -- What reading letters under a layout answers, and what it leaves in the buffers.
-use Rattle.std.specs.Prelude.{◌≡◌, ℕ, cond, List, length, Ok, Err, Result, nat_lt}
-use Rattle.std.proofs.Math.Option.{Option, some, none as nothing}
+use Rattle.std.specs.Prelude.{◌≡◌, ℕ, if◌then◌else◌, List, length, Some, None, Ok, Err, Option, Result, nat_lt}
 use Rattle.expression.specs.Expressions.{Expr}
 use Rattle.expression.specs.Trees.{Tree}
 use Rattle.expression.specs.Words.{Word}
@@ -17,8 +16,8 @@ longest = 1099511627776
 
 -- The first tree of e that spells w, or nothing if w is no word of e.
 abbrev pub Reading : Expr → List ℕ → Option Tree → Type 0
-Reading e w nothing = Word e w → ⊥
-Reading e w (some t) = First e w t
+Reading e w None = Word e w → ⊥
+Reading e w (Some t) = First e w t
 
 -- All letters have just one reading, so what is said of each reading is said of the one.
 pub record OneReading : Type 0 where
@@ -36,13 +35,18 @@ refused fault work turned = record { answer = Err fault; work = work; turned = t
 
 -- The outcome once the work is done: the number of turns, which begin the buffer, if there is a tree and they fit.
 abbrev pub told : List ℕ → Option Tree → List ℕ → List ℕ → Outcome
-told w nothing work turned = refused (NoWord (length w)) work turned
-told w (some t) work turned =
-    cond (nat_lt (length turned) (length (turns t))) (refused (ShortTurns (length (turns t))) work turned)
-    (record { answer = Ok (length (turns t)); work = work; turned = written (turns t) turned })
+told w None work turned = refused (NoWord (length w)) work turned
+told w (Some t) work turned =
+    if nat_lt (length turned) (length (turns t)) then refused (ShortTurns (length (turns t))) work turned
+    else record { answer = Ok (length (turns t)); work = work; turned = written (turns t) turned }
 
 -- The outcome of reading w, by its first tree, with these buffers.
 abbrev pub outcome : Expr → List ℕ → Option Tree → List ℕ → List ℕ → Outcome
 outcome e w o work turned =
-    cond (nat_lt longest (length w)) (refused TooLong work turned)
-    (cond (nat_lt (length work) (work_size e w)) (refused (ShortWork (work_size e w)) work turned) (told w o (written (rows e w) work) turned))
+    if nat_lt longest (length w) then refused TooLong work turned
+    else if nat_lt (length work) (work_size e w) then refused (ShortWork (work_size e w)) work turned
+    else told w o (written (rows e w) work) turned
+
+-- Reading w comes to the outcome x: that by its one reading.
+abbrev pub IsOutcome : Expr → List ℕ → List ℕ → List ℕ → Outcome → Type 0
+IsOutcome e w work turned x = (o : Option Tree) → Reading e w o → x ≡ outcome e w o work turned

@@ -1,11 +1,11 @@
 -- The work of a reading: which places can finish which letters.
-use Rattle.std.specs.Prelude.{◌≡◌, ℕ, ◌+◌, ◌*◌, ◌≤◌, Bool, cond, List, [], ◌∷◌, ◌++◌, map, length, drop, slice_index}
+use Rattle.std.specs.Prelude.{◌≡◌, ℕ, ◌+◌, ◌*◌, ◌≤◌, Bool, if◌then◌else◌, List, [], ◌∷◌, ◌++◌, map, length, drop, slice_index}
 use Rattle.std.specs.List.{range_with_len}
 use Rattle.expression.specs.Expressions.{Expr}
 use Rattle.expression.specs.Places.{letter_count, finishes}
 
 abbrev pub bit : Bool → ℕ
-bit b = cond b 1 0
+bit b = if b then 1 else 0
 
 -- A row: for each place from 0 to the last, 1 if it can finish the letters, else 0.
 abbrev pub row : Expr → List ℕ → List ℕ

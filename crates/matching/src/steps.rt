@@ -1,188 +1,104 @@
 //! The turns from one letter to the next.
-ghost use Rattle.std.specs.Prelude.{◌≡◌, ◌+◌, ◌^◌, ◌<◌, ◌≤◌, [], ◌∷◌, length};
-ghost use Rattle.matching.specs.Holding.{Sound, held};
-ghost use Rattle.matching.specs.Legs.{EnterReady, Entered, GoReady, LeaveReady, Left, PassReady, Passed, Put, StepReady, Stepped, Went, empty_turns};
+ghost use Rattle.std.specs.Prelude.{◌+◌, ◌<◌, ◌≤◌, [], ◌∷◌, length};
+ghost use Rattle.expression.specs.Layouts.{nodes_of};
+ghost use Rattle.expression.specs.Places.{continuation, letter_count};
+ghost use Rattle.matching.specs.Holding.{held, whole};
+ghost use Rattle.matching.specs.Legs.{Gone, after_in, leg, route_in};
+ghost use Rattle.matching.specs.Passes.{usable};
 
-use crate::reached::Reached;
-use crate::rows::read;
-use expression::node::{Node, Shape};
+use crate::entered::{Entered, read};
+use crate::turns::Turns;
+use expression::node::Shape;
 
-/// Writes one turn, if there is room, and counts it.
-fn put(turns: &mut [u8], at: usize, turn: u8) -> usize
-    requires { at < 2 ^ 60 }
-    ensures { Put (turn ∷ []) at result turns.old turns.new }
-{
-    if at < turns.len() {
-        turns[at] = turn;
-    }
-    at + 1
-}
-
-/// Writes the turns of the first tree without letters of node `i`.
-fn skip(nodes: &[Node], i: u8, turns: &mut [u8], at: usize) -> usize
-    requires sound { Sound nodes.now }
-    requires inside { i < length nodes.now }
-    requires room { at + length (empty_turns (held nodes.now i).expr) ≤ 2 ^ 60 }
-    ensures { Put (empty_turns (held nodes.now i).expr) at result turns.old turns.new }
-{
-    let node = read(nodes, i);
-    match node.shape {
-        Shape::Letter => at,
-        Shape::Empty => at,
-        Shape::Pair => {
-            let middle = skip(nodes, node.first, turns, at);
-            skip(nodes, node.second, turns, middle)
-        }
-        Shape::Or => {
-            if read(nodes, node.first).admits {
-                let below = put(turns, at, 0);
-                skip(nodes, node.first, turns, below)
-            } else {
-                let below = put(turns, at, 1);
-                skip(nodes, node.second, turns, below)
+impl Entered<'_> {
+    /// Writes the turns of the way from node `i` to its first letter that may come next, and answers the letter's place.
+    fn enter(&self, i: u8, turns: &mut Turns<'_>) -> Option<u8>
+        requires { i < length (nodes_of self.now.layout.now) }
+        ensures { Gone (route_in self.now.code (usable self.now.next.now) (held self.now.layout.now i)) result turns.old turns.new }
+    {
+        let here = read(self.layout, i);
+        match here.shape {
+            Shape::Letter(_) => Some(here.letters),
+            Shape::Empty => None,
+            Shape::Pair(first, second) => {
+                if self.nodes[usize::from(first)] {
+                    self.enter(first, turns)
+                } else {
+                    turns.put_empty_tree(self.layout, first);
+                    self.enter(second, turns)
+                }
+            }
+            Shape::Or(first, second) => {
+                if self.nodes[usize::from(first)] {
+                    turns.put(0);
+                    self.enter(first, turns)
+                } else {
+                    turns.put(1);
+                    self.enter(second, turns)
+                }
+            }
+            Shape::Star(child) => {
+                turns.put(0);
+                self.enter(child, turns)
             }
         }
-        Shape::Star => put(turns, at, 1),
     }
-}
 
-/// Writes the turns of the way from node `i` to its first letter that may come next.
-fn enter(nodes: &[Node], entered: &[bool; 256], i: u8, turns: &mut [u8], at: usize) -> Reached
-    requires sound { Sound nodes.now }
-    requires ready { EnterReady nodes.now entered.now i at }
-    ensures { Entered nodes.now entered.now i at result.count result.place turns.old turns.new }
-{
-    let node = read(nodes, i);
-    let straight = entered[node.first as usize];
-    match node.shape {
-        Shape::Letter => Reached {
-            count: at,
-            place: Some(node.letters),
-        },
-        Shape::Empty => Reached {
-            count: at,
-            place: None,
-        },
-        Shape::Pair => {
-            if straight {
-                enter(nodes, entered, node.first, turns, at)
-            } else {
-                let middle = skip(nodes, node.first, turns, at);
-                enter(nodes, entered, node.second, turns, middle)
+    /// Enters node `i`, if it may be entered, and passes over it if not.
+    fn pass(&self, i: u8, turns: &mut Turns<'_>) -> Option<u8>
+        requires { i < length (nodes_of self.now.layout.now) }
+        ensures { Gone (leg self.now.code (usable self.now.next.now) (held self.now.layout.now i ∷ [])) result turns.old turns.new }
+    {
+        if self.nodes[usize::from(i)] {
+            self.enter(i, turns)
+        } else {
+            turns.put_empty_tree(self.layout, i);
+            None
+        }
+    }
+
+    /// Writes the turns of the way from place `p` through the rest of node `i`, and answers the place of the letter that it leads to, if it does.
+    fn leave(&self, p: u8, i: u8, turns: &mut Turns<'_>) -> Option<u8>
+        requires inside { i < length (nodes_of self.now.layout.now) }
+        requires after { (held self.now.layout.now i).before < p }
+        requires within { p ≤ (held self.now.layout.now i).before + letter_count (held self.now.layout.now i).expr }
+        ensures { Gone (leg self.now.code (usable self.now.next.now) (after_in (held self.now.layout.now i) p)) result turns.old turns.new }
+    {
+        match read(self.layout, i).shape {
+            Shape::Letter(_) | Shape::Empty => None,
+            Shape::Pair(first, second) => {
+                if p <= read(self.layout, first).letters {
+                    match self.leave(p, first, turns) {
+                        Some(place) => Some(place),
+                        None => self.pass(second, turns),
+                    }
+                } else {
+                    self.leave(p, second, turns)
+                }
             }
-        }
-        Shape::Or => {
-            if straight {
-                let below = put(turns, at, 0);
-                enter(nodes, entered, node.first, turns, below)
-            } else {
-                let below = put(turns, at, 1);
-                enter(nodes, entered, node.second, turns, below)
+            Shape::Or(first, second) => {
+                if p <= read(self.layout, first).letters {
+                    self.leave(p, first, turns)
+                } else {
+                    self.leave(p, second, turns)
+                }
             }
-        }
-        Shape::Star => {
-            let below = put(turns, at, 0);
-            enter(nodes, entered, node.second, turns, below)
-        }
-    }
-}
-
-/// Enters node `i`, if it may be entered, and passes over it if not.
-fn pass(nodes: &[Node], entered: &[bool; 256], i: u8, turns: &mut [u8], at: usize) -> Reached
-    requires sound { Sound nodes.now }
-    requires ready { PassReady nodes.now entered.now i at }
-    ensures { Passed nodes.now entered.now i at result.count result.place turns.old turns.new }
-{
-    if entered[i as usize] {
-        enter(nodes, entered, i, turns, at)
-    } else {
-        Reached {
-            count: skip(nodes, i, turns, at),
-            place: None,
+            Shape::Star(child) => match self.leave(p, child, turns) {
+                Some(place) => Some(place),
+                None => self.pass(i, turns),
+            },
         }
     }
-}
 
-/// Goes on from where a leg has come, through node `i` or past it, unless it led to a letter.
-fn go_on(
-    nodes: &[Node],
-    entered: &[bool; 256],
-    reached: Reached,
-    i: u8,
-    turns: &mut [u8],
-) -> Reached
-    requires sound { Sound nodes.now }
-    requires ready { GoReady nodes.now entered.now i reached.count reached.place }
-    ensures { Went nodes.now entered.now i reached.count reached.place result.count result.place turns.old turns.new }
-{
-    match reached.place {
-        Some(_) => reached,
-        None => pass(nodes, entered, i, turns, reached.count),
-    }
-}
-
-/// Writes the turns of the way from place `p` through the rest of node `i`.
-fn leave(
-    nodes: &[Node],
-    entered: &[bool; 256],
-    p: u8,
-    i: u8,
-    turns: &mut [u8],
-    at: usize,
-) -> Reached
-    requires sound { Sound nodes.now }
-    requires ready { LeaveReady nodes.now entered.now p i at }
-    ensures { Left nodes.now entered.now p i at result.count result.place turns.old turns.new }
-{
-    let node = read(nodes, i);
-    let early = p <= read(nodes, node.first).letters;
-    match node.shape {
-        Shape::Letter => Reached {
-            count: at,
-            place: None,
-        },
-        Shape::Empty => Reached {
-            count: at,
-            place: None,
-        },
-        Shape::Pair => {
-            if early {
-                let reached = leave(nodes, entered, p, node.first, turns, at);
-                go_on(nodes, entered, reached, node.second, turns)
-            } else {
-                leave(nodes, entered, p, node.second, turns, at)
-            }
+    /// Writes the turns of the way from place `p` to the next letter, and answers its place, or to the end if none may come next.
+    pub(crate) fn step(&self, p: u8, turns: &mut Turns<'_>) -> Option<u8>
+        requires { p ≤ letter_count (whole self.now.layout.now) }
+        ensures { Gone (leg self.now.code (usable self.now.next.now) (continuation (whole self.now.layout.now) p)) result turns.old turns.new }
+    {
+        if p == 0 {
+            self.pass(self.root(), turns)
+        } else {
+            self.leave(p, self.root(), turns)
         }
-        Shape::Or => {
-            if early {
-                leave(nodes, entered, p, node.first, turns, at)
-            } else {
-                leave(nodes, entered, p, node.second, turns, at)
-            }
-        }
-        Shape::Star => {
-            let reached = leave(nodes, entered, p, node.second, turns, at);
-            go_on(nodes, entered, reached, i, turns)
-        }
-    }
-}
-
-/// Writes the turns of the way from place `p` to the next letter, or to the end if none may come next.
-pub(crate) fn step(
-    nodes: &[Node],
-    entered: &[bool; 256],
-    p: u8,
-    turns: &mut [u8],
-    at: usize,
-) -> Reached
-    requires sound { Sound nodes.now }
-    requires ready { StepReady nodes.now entered.now p at }
-    ensures { Stepped nodes.now entered.now p at result.count result.place turns.old turns.new }
-{
-    let root = (nodes.len() - 1) as u8;
-    if p == 0 {
-        pass(nodes, entered, root, turns, at)
-    } else {
-        leave(nodes, entered, p, root, turns, at)
     }
 }

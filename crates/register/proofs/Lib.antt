@@ -1,2 +1,1 @@
-mod Lodgings
 pub mod OneAnswer

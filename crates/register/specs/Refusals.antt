@@ -2,7 +2,7 @@
 use Rattle.std.specs.Prelude.{ℕ}
 use Rattle.expression.specs.declared.fault.TableFault.{TableFault}
 use Rattle.expression.specs.declared.fault.TableFault.TheVariants.{Empty, TooLong, Breaks, Unfinished, NoMemory}
-use Rattle.register.specs.declared.refusal.Figures.{Figures}
+use Rattle.figures.specs.declared.Figures.{Figures}
 use Rattle.register.specs.declared.refusal.Refusal.{Refusal}
 use Rattle.register.specs.declared.refusal.Refusal.TheVariants as refusal
 
@@ -25,3 +25,7 @@ refused_table TooLong = refusal.Table TooLong
 refused_table (Breaks i) = refusal.Table (Breaks i)
 refused_table (Unfinished n) = refusal.Table (Unfinished n)
 refused_table NoMemory = refusal.NoMemory
+
+-- Want of memory.
+abbrev pub no_memory : Refusal
+no_memory = refusal.NoMemory

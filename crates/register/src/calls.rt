@@ -35,8 +35,7 @@ impl<K: Kind> Register<K> {
         ensures keeps { Kept (tables self.old) (tables self.new) }
     {
         let layout = Layout::new::<K>(self.heap, table)?;
-        let number = self.place(layout)?;
-        Ok(number)
+        self.place(layout)
     }
 
     /// Gives a layout the next number, where there is room.
@@ -48,9 +47,7 @@ impl<K: Kind> Register<K> {
         if number >= ROOM {
             return Err(Refusal::Full);
         }
-        if self.layouts.push(layout).is_err() {
-            return Err(Refusal::NoMemory);
-        }
+        self.layouts.push(layout)?;
         Ok(number)
     }
 }
@@ -59,17 +56,21 @@ impl<K: Kind> Register<K> {
 mod tests {
     use super::*;
     use alphabet::bytes::Bytes;
+    use figures::Figures;
     use std::test::Fail;
 
-    // The answer to a lodging: 0 and the number, or the refusal's number and first value.
-    fn told(r: Result<usize, Refusal>) -> (u16, usize) {
-        match r {
-            Ok(number) => (0, number),
-            Err(refusal) => {
-                let figures = refusal.figures();
-                (figures.number, figures.first)
-            }
-        }
+    // The answer to a lodging: the number, or the refusal's figures.
+    fn lodged(register: &mut Register<Bytes>, table: &[RawNode]) -> Result<usize, Figures> {
+        Ok(register.lodge(table)?)
+    }
+
+    // A refusal's figures, of which the second value is 0.
+    fn refused(number: u16, first: usize) -> Result<usize, Figures> {
+        Err(Figures {
+            number,
+            first,
+            second: 0,
+        })
     }
 
     #[test]
@@ -79,23 +80,27 @@ mod tests {
         let long = vec![in heap; RawNode::Empty; 256]?;
         let bad = [RawNode::Letter(1), RawNode::Star, RawNode::Pair];
         for number in 0..16usize {
-            assert_eq!(rt;
-                told(register.lodge(&[RawNode::Letter(255), RawNode::Star])),
-                (0, number)
-            );
-            assert_eq!(rt; told(register.lodge(&bad)), (41, 2));
+            let table = [RawNode::Letter(255), RawNode::Star];
+            assert_eq!(rt; lodged(&mut register, &table), Ok(number));
+            assert_eq!(rt; lodged(&mut register, &bad), refused(41, 2));
         }
-        assert_eq!(rt; told(register.lodge(&[RawNode::Empty])), (42, 0));
-        assert_eq!(rt; told(register.lodge(&[])), (41, 0));
-        assert_eq!(rt; told(register.lodge(&long)), (41, 255));
-        assert_eq!(rt; told(register.lodge(&[RawNode::Letter(256)])), (41, 0));
+        assert_eq!(rt; lodged(&mut register, &[RawNode::Empty]), refused(42, 0));
+        assert_eq!(rt; lodged(&mut register, &[]), refused(41, 0));
+        assert_eq!(rt; lodged(&mut register, &long), refused(41, 255));
         assert_eq!(rt;
-            told(register.lodge(&[RawNode::Empty, RawNode::Unknown(9)])),
-            (41, 1)
+            lodged(&mut register, &[RawNode::Letter(256)]),
+            refused(41, 0)
         );
         assert_eq!(rt;
-            told(register.lodge(&[RawNode::Empty, RawNode::Empty, RawNode::Empty])),
-            (41, 3)
+            lodged(&mut register, &[RawNode::Empty, RawNode::Unknown(9)]),
+            refused(41, 1)
+        );
+        assert_eq!(rt;
+            lodged(
+                &mut register,
+                &[RawNode::Empty, RawNode::Empty, RawNode::Empty]
+            ),
+            refused(41, 3)
         );
         Ok(())
     }

@@ -1,11 +1,13 @@
 //! Why a call is refused.
 ghost use Rattle.std.specs.Prelude.{◌≡◌};
-ghost use Rattle.register.specs.Refusals.{figures, refused_table};
+ghost use Rattle.register.specs.Refusals.{figures, no_memory, refused_table};
 
 use expression::fault::TableFault;
+use figures::Figures;
+use std::alloc::AllocFailed;
 
 /// The causes of refusals, each with what it tells.
-#[derive(Clone, Copy)]
+#[derive(Clone, Copy, PartialEq, Eq, Debug)]
 pub enum Refusal {
     /// The table is no layout: it is empty or too long, breaks at a node, or is unfinished.
     Table(TableFault),
@@ -14,19 +16,12 @@ pub enum Refusal {
     NoMemory,
 }
 
-/// A refusal as it is printed: its number and two values.
-#[derive(Clone, Copy)]
-pub struct Figures {
-    pub number: u16,
-    pub first: usize,
-    pub second: usize,
-}
+/// A refusal by its number and two values, as it is printed.
+impl From<Refusal> for Figures {
+    ghost from_gives = { λ r f. f ≡ figures r };
 
-impl Refusal {
-    pub fn figures(self) -> Figures
-        ensures { result ≡ figures self }
-    {
-        let (number, first) = match self {
+    fn from(refusal: Refusal) -> Figures {
+        let (number, first) = match refusal {
             Refusal::Table(TableFault::Empty) => (41, 0),
             Refusal::Table(TableFault::TooLong) => (41, 255),
             Refusal::Table(TableFault::Breaks(node)) => (41, node),
@@ -42,6 +37,7 @@ impl Refusal {
     }
 }
 
+/// Want of memory is one refusal, wherever it came.
 impl From<TableFault> for Refusal {
     ghost from_gives = { λ f r. r ≡ refused_table f };
 
@@ -50,5 +46,13 @@ impl From<TableFault> for Refusal {
             TableFault::NoMemory => Refusal::NoMemory,
             _ => Refusal::Table(fault),
         }
+    }
+}
+
+impl<T: Drop> From<AllocFailed<T>> for Refusal {
+    ghost from_gives = { λ _ r. r ≡ no_memory };
+
+    fn from(_failed: AllocFailed<T>) -> Refusal {
+        Self::NoMemory
     }
 }

@@ -1,34 +1,76 @@
 -- The steps of cutting a line into tokens.
-use Rattle.std.proofs.Common.{◌≡◌, ℕ, zero, suc, ◌+◌, ◌-◌, ◌*◌, ◌<◌, ◌≤◌, Bool, true, false, cond, ◌&&◌, ◌||◌, eqb, leb, ◌⊎◌, List, [], ◌∷◌, ◌++◌, length, get_or, take, drop, Ok, Err, sym, refl, ap, ◌∙◌, inl, inr, arith, take-append-drop, le-ltb, lt-ltb, ne_eqb, eqb-true, leb-true}
+use Rattle.std.proofs.Common.{◌≡◌, ℕ, ◌+◌, ◌-◌, ◌*◌, ◌<◌, ◌≤◌, Bool, true, false, cond, not, ◌&&◌, ◌||◌, leb, List, [], ◌∷◌, ◌++◌, length, get_or, take, drop, Some, None, sym, refl, ap, ◌∙◌, append_assoc, append-nil, add-zero, one-add, arith, take-append-drop, length-drop, get_or-drop, le-ltb, lt-ltb, leb-true}
 use borrow.Author.Tests.{lt-leb}
 use Rattle.std.proofs.lemmas.List.{take_more}
-use Rattle.std.proofs.lemmas.Bool.{and_parts}
-use Rattle.text.specs.Parts.{part}
-use Rattle.script.specs.Tokens.{sign, at, idle, begun, letter, digit, mark, belongs, run_token, lexed, decimal_on, decimal}
-use Rattle.script.specs.Lexing.{ahead, begins, Took, valued}
-use Rattle.script.specs.declared.fault.TokenFault.TheVariants.{TooLarge}
+use Rattle.std.proofs.lemmas.List.Sums.{prefix_len-le-length, prefix_len_stops}
+use Rattle.std.proofs.lemmas.Bool.{and_parts, not-true, not-false}
+use Rattle.std.specs.List.{prefix_len}
+use Rattle.script.specs.Bytes.{Spoiled}
+use Rattle.script.specs.Tokens.{sign, at, idle, Begun, begun, Placed, letter, digit, mark, known, belongs, run_token, fresh, lexed, decimal_on, decimal}
+use Rattle.script.specs.Lexing.{begins, Fronts, Took, valued}
 use Rattle.script.specs.declared.token.Run.{Run}
-use Rattle.script.specs.declared.token.Run.TheVariants.{Letters, Digits}
-use Rattle.script.specs.declared.token.Sort.TheVariants.{Open, Close, Dash, End}
-use Rattle.text.proofs.Sections.{split, none_left, part_one, part_more}
+use Rattle.script.specs.declared.token.Run.TheVariants.{Letters, Digits as Numerals}
+use Rattle.script.specs.declared.token.Sort.{Sort}
+use Rattle.script.specs.declared.token.Sort.TheVariants.{Name, Digits}
+
+-- The first byte that a line may not hold.
+pub spoiled : (line : List ℕ) (i : ℕ) → (i < length line) × (not (known (get_or line i 0)) ≡ true) × ((k : ℕ) → k < i → not (known (get_or line k 0)) ≡ false) → Spoiled line (i + 1)
+spoiled line i h = record { index = i; place = refl; inside = h.0; strange = not-true _ h.1; before = λ k l. not-false _ (h.2 k l) }
+
+abbrev pub blank : ℕ → Bool
+blank b = not (begins b)
+
+moved : (i n b : ℕ) (bs : List ℕ) → lexed idle (i + 1 + n) (drop n bs) ≡ lexed idle (i + (1 + n)) (drop (1 + n) (b ∷ bs))
+moved i n b bs =
+    let e : i + 1 + n ≡ i + (1 + n) = omega arith in
+    ap (λ j. lexed idle j (drop n bs)) e ∙ ap (λ m. lexed idle (i + (1 + n)) (drop m (b ∷ bs))) (sym (one-add n))
 
 -- A byte that begins no token is passed over.
-pub skipped : (line : List ℕ) (i : ℕ) → i < length line → begins (get_or line i 0) ≡ false → ahead line i ≡ ahead line (i + 1)
-skipped line i h n = ap (lexed idle i) (split line i h) ∙ go (letter (get_or line i 0)) (digit (get_or line i 0)) (mark (get_or line i 0)) n
+passed : (i b : ℕ) (rest : Begun → List Placed) → begins b ≡ false → fresh i b rest ≡ rest idle
+passed i b rest n = go (letter b) (digit b) (mark b) n
   where
     go : (x y z : Bool) → (x || (y || z)) ≡ false
-        → cond x (lexed (begun Letters (get_or line i 0 ∷ []) i) (i + 1) (drop (i + 1) line))
-        (cond y (lexed (begun Digits (get_or line i 0 ∷ []) i) (i + 1) (drop (i + 1) line))
-        (cond z (at i (sign (get_or line i 0)) ∷ lexed idle (i + 1) (drop (i + 1) line)) (lexed idle (i + 1) (drop (i + 1) line))))
-        ≡ lexed idle (i + 1) (drop (i + 1) line)
+        → cond x (rest (begun Letters (b ∷ []) i)) (cond y (rest (begun Numerals (b ∷ []) i)) (cond z (at i (sign b) ∷ rest idle) (rest idle))) ≡ rest idle
     go true y z e = cc
     go false true z e = cc
     go false false true e = cc
     go false false false e = refl
 
-signed : (line : List ℕ) (i b : ℕ) → i < length line → get_or line i 0 ≡ b → letter b ≡ false → digit b ≡ false → mark b ≡ true
-    → ahead line i ≡ at i (sign b) ∷ ahead line (i + 1)
-signed line i b h e l d m = ap (lexed idle i) (split line i h ∙ ap (λ x. x ∷ drop (i + 1) line) e) ∙ rw (l, d, m)
+-- So are all of them at the front.
+pub blanked : (bs : List ℕ) (i : ℕ) → lexed idle i bs ≡ lexed idle (i + prefix_len blank bs) (drop (prefix_len blank bs) bs)
+blanked [] i = ap (λ j. lexed idle j []) (sym (add-zero i))
+blanked (b ∷ bs) i = go (begins b) refl (blanked bs (i + 1))
+  where
+    go : (x : Bool) → begins b ≡ x → lexed idle (i + 1) bs ≡ lexed idle (i + 1 + prefix_len blank bs) (drop (prefix_len blank bs) bs)
+        → lexed idle i (b ∷ bs) ≡ lexed idle (i + cond (not x) (1 + prefix_len blank bs) 0) (drop (cond (not x) (1 + prefix_len blank bs) 0) (b ∷ bs))
+    go true e ih = ap (λ j. lexed idle j (b ∷ bs)) (sym (add-zero i))
+    go false e ih = passed i b (λ q. lexed q (i + 1) bs) e ∙ (ih ∙ moved i (prefix_len blank bs) b bs)
+
+-- After them a token begins.
+pub begins_there : (bs : List ℕ) → 0 < length (drop (prefix_len blank bs) bs) → begins (get_or (drop (prefix_len blank bs) bs) 0 0) ≡ true
+begins_there bs h =
+    let n = prefix_len blank bs in
+    let l : n < length bs = omega (arith, length-drop n bs) in
+    ap begins (get_or-drop n bs 0 0 ∙ ap (λ j. get_or bs j 0) (add-zero n)) ∙ not-false _ (prefix_len_stops blank bs 0 l)
+
+-- A run goes on over its bytes, and ends before the next.
+runs : (r : Run) (w bs : List ℕ) (s i : ℕ)
+    → lexed (begun r w s) i bs ≡ at s (run_token r (w ++ take (prefix_len (belongs r) bs) bs)) ∷ lexed idle (i + prefix_len (belongs r) bs) (drop (prefix_len (belongs r) bs) bs)
+runs r w [] s i = ap (λ v. at s (run_token r v) ∷ lexed idle i []) (sym (append-nil w)) ∙ ap (λ j. at s (run_token r (w ++ [])) ∷ lexed idle j []) (sym (add-zero i))
+runs r w (b ∷ bs) s i = go (belongs r b) (runs r (w ++ b ∷ []) bs s (i + 1))
+  where
+    go : (x : Bool)
+        → lexed (begun r (w ++ b ∷ []) s) (i + 1) bs
+        ≡ at s (run_token r ((w ++ b ∷ []) ++ take (prefix_len (belongs r) bs) bs)) ∷ lexed idle (i + 1 + prefix_len (belongs r) bs) (drop (prefix_len (belongs r) bs) bs)
+        → cond x (lexed (begun r (w ++ b ∷ []) s) (i + 1) bs) (at s (run_token r w) ∷ lexed idle i (b ∷ bs))
+        ≡ at s (run_token r (w ++ take (cond x (1 + prefix_len (belongs r) bs) 0) (b ∷ bs))) ∷ lexed idle (i + cond x (1 + prefix_len (belongs r) bs) 0) (drop (cond x (1 + prefix_len (belongs r) bs) 0) (b ∷ bs))
+    go true ih =
+        let n = prefix_len (belongs r) bs in
+        ih
+        ∙ (ap (λ v. at s (run_token r v) ∷ lexed idle (i + 1 + n) (drop n bs)) (append_assoc w (b ∷ []) (take n bs) ∙ ap (λ m. w ++ take m (b ∷ bs)) (sym (one-add n)))
+        ∙ ap (λ ts. at s (run_token r (w ++ take (1 + n) (b ∷ bs))) ∷ ts) (moved i n b bs))
+    go false ih =
+        ap (λ v. at s (run_token r v) ∷ lexed idle i (b ∷ bs)) (sym (append-nil w)) ∙ ap (λ j. at s (run_token r (w ++ [])) ∷ lexed idle j (b ∷ bs)) (sym (add-zero i))
 
 digit_no_letter : (b : ℕ) → digit b ≡ true → letter b ≡ false
 digit_no_letter b d =
@@ -36,54 +78,41 @@ digit_no_letter b d =
     let h = leb-true b 57 p.1 in
     let l : b < 97 = omega arith in ap (λ x. x && leb b 122) (lt-leb 97 b l)
 
-pub run_begins : (line : List ℕ) (r : Run) (i : ℕ) → i < length line → belongs r (get_or line i 0) ≡ true
-    → ahead line i ≡ lexed (begun r (part line i (i + 1)) i) (i + 1) (drop (i + 1) line)
-run_begins line Letters i h l = ap (lexed idle i) (split line i h) ∙ rw (part_one line i h, l)
-run_begins line Digits i h d = ap (lexed idle i) (split line i h) ∙ rw (part_one line i h, digit_no_letter (get_or line i 0) d, d)
+chosen : {A : Type 0} (x : Bool) (a b c : A) → x ≡ true → cond x a b ≡ cond x a c
+chosen true a b c e = refl
+chosen false a b c e = cc
 
-pub run_grows : (line : List ℕ) (r : Run) (i j : ℕ) → i ≤ j → j < length line → belongs r (get_or line j 0) ≡ true
-    → lexed (begun r (part line i j) i) j (drop j line) ≡ lexed (begun r (part line i (j + 1)) i) (j + 1) (drop (j + 1) line)
-run_grows line r i j le h l = ap (lexed (begun r (part line i j) i) j) (split line j h) ∙ rw (part_more line i j le h, l)
+-- A name or a number at the front is its run.
+pub fronts_name : (bs : List ℕ) → 0 < length bs → letter (get_or bs 0 0) ≡ true → Fronts bs Name (prefix_len (belongs Letters) bs)
+fronts_name [] h l = absurd (omega arith)
+fronts_name (b ∷ bs) h l =
+    record {
+      within = prefix_len-le-length (belongs Letters) (b ∷ bs);
+      cut = λ i. chosen (letter b) (lexed (begun Letters (b ∷ []) i) (i + 1) bs) _ _ l ∙ runs Letters [] (b ∷ bs) i i;
+    }
 
-run_stops : (line w : List ℕ) (r : Run) (i j : ℕ) → length line ≤ j → lexed (begun r w i) j (drop j line) ≡ at i (run_token r w) ∷ ahead line j
-run_stops line w r i j g = let e = none_left line j g in rw e
+pub fronts_number : (bs : List ℕ) → 0 < length bs → digit (get_or bs 0 0) ≡ true → Fronts bs Digits (prefix_len (belongs Numerals) bs)
+fronts_number [] h l = absurd (omega arith)
+fronts_number (b ∷ bs) h l =
+    record {
+      within = prefix_len-le-length (belongs Numerals) (b ∷ bs);
+      cut = λ i.
+          ap (λ x. cond x (lexed (begun Letters (b ∷ []) i) (i + 1) bs) (cond (digit b) (lexed (begun Numerals (b ∷ []) i) (i + 1) bs) (cond (mark b) (at i (sign b) ∷ lexed idle (i + 1) bs) (lexed idle (i + 1) bs))))
+          (digit_no_letter b l)
+          ∙ (chosen (digit b) (lexed (begun Numerals (b ∷ []) i) (i + 1) bs) _ _ l ∙ runs Numerals [] (b ∷ bs) i i);
+    }
 
-pub run_ends : (line w : List ℕ) (r : Run) (i j : ℕ) → (length line ≤ j) ⊎ (belongs r (get_or line j 0) ≡ false)
-    → lexed (begun r w i) j (drop j line) ≡ at i (run_token r w) ∷ ahead line j
-run_ends line w r i j (inl g) = run_stops line w r i j g
-run_ends line w r i j (inr l) = go (cases (length line - j) refl)
-  where
-    cases : (n : ℕ) → length line - j ≡ n → (j < length line) ⊎ (length line ≤ j)
-    cases zero e = inr (omega arith)
-    cases (suc n) e = inl (omega arith)
-
-    go : (j < length line) ⊎ (length line ≤ j) → lexed (begun r w i) j (drop j line) ≡ at i (run_token r w) ∷ ahead line j
-    go (inl h) = rw (split line j h, l)
-    go (inr g) = run_stops line w r i j g
-
-module _ (line : List ℕ) (i s : ℕ) (h : s < length line) (e : ahead line i ≡ ahead line s) where
-  pub took_open : get_or line s 0 ≡ 40 → Took line i (record { sort = Open; from = s; to = s + 1 })
-  took_open q = record { within = omega arith; ordered = omega arith; tokens = e ∙ signed line s 40 h q refl refl refl }
-
-  pub took_close : get_or line s 0 ≡ 41 → Took line i (record { sort = Close; from = s; to = s + 1 })
-  took_close q = record { within = omega arith; ordered = omega arith; tokens = e ∙ signed line s 41 h q refl refl refl }
-
-  pub took_dash : letter (get_or line s 0) ≡ false → digit (get_or line s 0) ≡ false → begins (get_or line s 0) ≡ true → (get_or line s 0 ≡ 40 → ⊥) → (get_or line s 0 ≡ 41 → ⊥)
-      → Took line i (record { sort = Dash; from = s; to = s + 1 })
-  took_dash l d b n m =
-      let z : begins (get_or line s 0) ≡ eqb (get_or line s 0) 45 = rw (l, d, ne_eqb (get_or line s 0) 40 n, ne_eqb (get_or line s 0) 41 m) in
-      record { within = omega arith; ordered = omega arith; tokens = e ∙ signed line s 45 h (eqb-true _ 45 (sym z ∙ b)) refl refl refl }
-
-pub took_end : (line : List ℕ) (i s : ℕ) → ahead line i ≡ ahead line s → s ≡ length line → Took line i (record { sort = End; from = s; to = s })
-took_end line i s e q =
-    record { within = omega arith; ordered = omega arith; tokens = e ∙ ap (lexed idle s) (none_left line s (omega arith)) }
+-- The token that is taken where so many bytes are passed over, and so many more are its own.
+pub taken : (i j k n m : ℕ) (bs cs ds w : List ℕ) (x : Sort) → n ≡ prefix_len blank bs → cs ≡ drop n bs → j ≡ i + n → Fronts cs x m → w ≡ take m cs → ds ≡ drop m cs → k ≡ j + m
+    → Took (lexed idle i bs) x (j + 1) w (lexed idle k ds)
+taken i j k n m bs cs ds w x passed rest at f text after to = let b = blanked bs i in let c = f.cut j in cc
 
 -- More digits make no number smaller.
 decimal_more : (n : ℕ) (bs : List ℕ) → n ≤ decimal_on n bs
 decimal_more n [] = omega arith
 decimal_more n (b ∷ bs) = let h = decimal_more (n * 10 + (b - 48)) bs in omega arith
 
-pub decimal-++ : (n : ℕ) (a b : List ℕ) → decimal_on n (a ++ b) ≡ decimal_on (decimal_on n a) b
+decimal-++ : (n : ℕ) (a b : List ℕ) → decimal_on n (a ++ b) ≡ decimal_on (decimal_on n a) b
 decimal-++ n [] b = refl
 decimal-++ n (x ∷ a) b = decimal-++ (n * 10 + (x - 48)) a b
 
@@ -91,12 +120,11 @@ pub value_more : (w : List ℕ) (i : ℕ) → i < length w → decimal (take (i 
 value_more w i h = ap decimal (take_more w i 0 h) ∙ decimal-++ 0 (take i w) (get_or w i 0 ∷ [])
 
 -- Once the digits so far are too large, all of them are.
-pub value_over : (w : List ℕ) (from i : ℕ) → 65535 < decimal (take i w) → Err (TooLarge (from + 1)) ≡ valued from (decimal w)
-value_over w from i h =
+pub value_over : (w : List ℕ) (i : ℕ) → 65535 < decimal (take i w) → None ≡ valued (decimal w)
+value_over w i h =
     let m = decimal_more (decimal (take i w)) (drop i w) in
     let e : decimal w ≡ decimal_on (decimal (take i w)) (drop i w) = ap decimal (sym (take-append-drop i w)) ∙ decimal-++ 0 (take i w) (drop i w) in
-    sym (ap (λ b. cond b (Err (TooLarge (from + 1))) (Ok (decimal w))) (lt-ltb 65535 (decimal w) (omega arith)))
+    sym (ap (λ b. cond b None (Some (decimal w))) (lt-ltb 65535 (decimal w) (omega arith)))
 
-pub value_end : (w : List ℕ) (from n : ℕ) → n ≤ 65535 → n ≡ decimal w → Ok n ≡ valued from (decimal w)
-value_end w from n h e =
-    ap (λ m. Ok m) e ∙ sym (ap (λ b. cond b (Err (TooLarge (from + 1))) (Ok (decimal w))) (le-ltb 65535 (decimal w) (omega arith)))
+pub value_end : (n : ℕ) → n ≤ 65535 → Some n ≡ valued n
+value_end n h = sym (ap (λ b. cond b None (Some n)) (le-ltb 65535 n h))

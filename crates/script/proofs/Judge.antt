@@ -190,8 +190,8 @@ opens_none d ts (a_head ∷ k) k' t h o e = elim h.0 [ ]
 
 -- Where a mark is wanted, or a node opens, the tokens are within a form.
 trail_of_mark : (d : Dialect) (ts : List Token) (left i : ℕ) (ns : List ℕ) (k : List Want) → Stage d ts left (more i ns ∷ k) → Top d ts (more i ns)
-trail_of_mark d ts left i ns k (at_start a e b) = let z : ◌≡◌ {A = ℕ} 0 1 = cc in absurd (omega arith)
-trail_of_mark d ts left i ns k (at_head a e b) = let z : ◌≡◌ {A = ℕ} 0 1 = cc in absurd (omega arith)
+trail_of_mark d ts left i ns k (at_start a e b) = cc
+trail_of_mark d ts left i ns k (at_head a e b) = cc
 trail_of_mark d ts left i ns k (in_lodge us a b h) = h.0
 
 within_lodge : (d : Dialect) (ts : List Token) (left : ℕ) (k : List Want) → Stage d ts left k → opening_node k ≡ true → (us : List Token) × (ts ≡ opening ∷ (word is_lodge ∷ us)) × (left + opens us ≡ 255)
@@ -290,8 +290,8 @@ went_sound d left k t (w_on k' l o p f) = record { low = l; even = o; fit = f; r
 
 opened : (d : Dialect) (ts us : List Token) (left : ℕ) (k k' : List Want) (t : Token) → Stage d ts left k → ts ≡ opening ∷ (word is_lodge ∷ us) → opens us ≡ 255 → t ≡ opening
     → fits d k t ≡ Some k' → (opening_node k ≡ true → left ≡ 0 → ⊥) → ⊥
-opened d ts us left k k' t (at_start a e b) q c o f r = let z : ◌≡◌ {A = ℕ} 0 1 = cc in omega arith
-opened d ts us left k k' t (at_head a e b) q c o f r = let z : ◌≡◌ {A = ℕ} 0 1 = cc in omega arith
+opened d ts us left k k' t (at_start a e b) q c o f r = cc
+opened d ts us left k k' t (at_head a e b) q c o f r = cc
 opened d ts us left k k' t (in_lodge vs a b h) q c o f r = go (opening_node k) refl
   where
     v : vs ≡ us
@@ -316,8 +316,8 @@ clean_of {k' = k'} d ts left k t p h w x = go (went_sound d left k t w) x
 
 snoc_split : {A : Type 0} (a u v : List A) (x y : A) → a ++ x ∷ [] ≡ u ++ y ∷ v → ((a ≡ u) × (x ≡ y)) ⊎ ((v' : List A) × (a ≡ u ++ y ∷ v'))
 snoc_split [] [] v x y e = inl (refl, cc)
-snoc_split [] (c ∷ []) v x y e = let z : ◌≡◌ {A = ℕ} 0 1 = cc in absurd (omega arith)
-snoc_split [] (c ∷ (d ∷ u)) v x y e = let z : ◌≡◌ {A = ℕ} 0 1 = cc in absurd (omega arith)
+snoc_split [] (c ∷ []) v x y e = cc
+snoc_split [] (c ∷ (d ∷ u)) v x y e = cc
 snoc_split (b ∷ a) [] v x y e = inr (a, cc)
 snoc_split {A} (b ∷ a) (c ∷ u) v x y e = go (snoc_split a u v x y (cc))
   where
@@ -365,8 +365,8 @@ found d a (t ∷ ts) left k h c = go (step d left k t.token) (view d left k t.to
         (ih left' k' kept (clean_on d a t c (λ f x. clean_of d (map bare a) left k t.token t.place h w x)))
 
 clean_none : (d : Dialect) → Clean d []
-clean_none d [] v t f e w = let z : ◌≡◌ {A = ℕ} 0 1 = cc in omega arith
-clean_none d (x ∷ u) v t f e w = let z : ◌≡◌ {A = ℕ} 0 1 = cc in omega arith
+clean_none d [] v t f e w = cc
+clean_none d (x ∷ u) v t f e w = cc
 
 pub verdict : (d : Dialect) (ts : List Placed) → Verdict d ts (judged d ts)
 verdict d ts = found d [] ts 255 start (record { runs = refl; stage = at_start refl refl refl }) (clean_none d)

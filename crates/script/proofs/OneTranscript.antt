@@ -1,5 +1,5 @@
 -- A script prints one thing.
-use Rattle.std.proofs.Common.{◌≡◌, ℕ, suc, ◌+◌, ◌<◌, Bool, true, false, List, ◌++◌, length, Some, vec_items, sym, refl, ap, ◌∙◌, subst, arith}
+use Rattle.std.proofs.Common.{◌≡◌, ℕ, suc, ◌+◌, ◌<◌, Bool, false, List, ◌++◌, length, Some, vec_items, sym, refl, ap, ◌∙◌, subst, arith}
 use native.Mathlib.Decide.{dec_lt}
 use Rattle.expression.specs.declared.raw.RawNode.{RawNode}
 use Rattle.register.proofs.OneAnswer.{one_answer}
@@ -22,10 +22,8 @@ use Rattle.script.specs.declared.fault.FormFault.{FormFault}
 use Rattle.script.specs.declared.fault.FormFault.TheVariants.{Token, Misfit, TooManyNodes, NoMemory}
 use Rattle.script.specs.declared.form.Form.{Form as AForm}
 use Rattle.script.specs.declared.form.Form.TheVariants.{Lodge}
+use Rattle.script.proofs.Same.{opposed}
 use Rattle.script.proofs.Unique.{one_fault, one_form}
-
-never : {A : Type 0} → true ≡ false → A
-never e = let z : ◌≡◌ {A = ℕ} 0 1 = cc in absurd (omega arith)
 
 abbrev tabled : AForm → List RawNode
 tabled (Lodge v) = vec_items v
@@ -55,7 +53,7 @@ told d line (TooManyNodes p) u = wrong u
 told d line NoMemory u = no_memory
 
 clean : (line : List ℕ) (p : ℕ) → Known line (length line) → Spoiled line p → ⊥
-clean line p k s = never (sym (k s.index s.inside) ∙ s.strange)
+clean line p k s = opposed (sym (k s.index s.inside) ∙ s.strange)
 
 form_or_fault : {d : Dialect} {line : List ℕ} {e : FormFault} (f : AForm) → Accepted d line f → Told d line e → e ≡ NoMemory
 form_or_fault f a no_memory = refl
@@ -66,8 +64,8 @@ one_byte : (line : List ℕ) (p q : ℕ) → Spoiled line p → Spoiled line q �
 one_byte line p q s t = go (dec_lt s.index t.index) (dec_lt t.index s.index)
   where
     go : Dec (s.index < t.index) → Dec (t.index < s.index) → p ≡ q
-    go (yes h) _ = never (sym (t.before s.index h) ∙ s.strange)
-    go (no _) (yes h) = never (sym (s.before t.index h) ∙ t.strange)
+    go (yes h) _ = opposed (sym (t.before s.index h) ∙ s.strange)
+    go (no _) (yes h) = opposed (sym (s.before t.index h) ∙ t.strange)
     go (no f) (no g) = let e : s.index ≡ t.index = omega arith in s.place ∙ (ap (λ i. i + 1) e ∙ sym t.place)
 
 one_told : {d : Dialect} {line : List ℕ} {e f : FormFault} → Told d line e → Told d line f → (e ≡ NoMemory → ⊥) → (f ≡ NoMemory → ⊥) → e ≡ f
@@ -80,10 +78,10 @@ one_told {line = line} (wrong r) (bad_byte {p = q} t) a b = absurd (clean line q
 one_told {d} {line} {e} {f} (wrong r) (wrong q) a b = one_fault d _ e f r.leftmost q.leftmost
 
 form_memory : (e : FormFault) → out_of_memory (Form e) ≡ false → e ≡ NoMemory → ⊥
-form_memory e o q = never (sym (ap (λ x. out_of_memory (Form x)) q) ∙ o)
+form_memory e o q = opposed (sym (ap (λ x. out_of_memory (Form x)) q) ∙ o)
 
 call_memory : (e : Refusal) → out_of_memory (Call e) ≡ false → e ≡ refusal.NoMemory → ⊥
-call_memory e o q = never (sym (ap (λ x. out_of_memory (Call x)) q) ∙ o)
+call_memory e o q = opposed (sym (ap (λ x. out_of_memory (Call x)) q) ∙ o)
 
 module _ (d : Dialect) (gives : ℕ → Bool) (n : ℕ) (line : List ℕ) (before : Tables) where
   -- What was lodged, of which table.

@@ -8,8 +8,8 @@ use Rattle.script.specs.Dialects.{Dialect, marks, bytes, mark_size, code_named}
 use Rattle.script.specs.Forms.{Brackets, mark, empty, pair, or, star, Written, lodge, bracketed, spelled, nodes, AllLow, Low}
 use Rattle.script.specs.Law.{Clean, Refused, Refusal}
 use Rattle.script.specs.Machine as machine
-use Rattle.script.specs.Machine.{Want, an_expr, a_name, more, the, wanted, after_name, start, Step, on, off, unnamed, fitted, step, going, fault, landed, walk, judged}
-use Rattle.script.specs.Reading.{name_bytes, Told}
+use Rattle.script.specs.Machine.{Want, an_expr, a_name, more, the, wanted, after_name, start, Step, on, off, unnamed, fitted, step, going, fault, landed, walk, judged, Told}
+use Rattle.script.specs.Reading.{name_bytes}
 use Rattle.script.specs.Tokens.{Token, word, number, opening, closing, finish, Placed, bare, tokens}
 use Rattle.script.specs.declared.fault.TokenFault.TheVariants.{BadByte, TooLarge}
 use Rattle.script.specs.declared.fault.FormFault.{FormFault}
@@ -37,7 +37,7 @@ walks_as d (t ∷ ts) left left' k k' e = go (step d left k t.token) e (λ l j. 
   where
     go : (s : Step) → strides d s (map bare ts) ≡ on left' k' → ((l : ℕ) (j : List Want) → strides d (on l j) (map bare ts) ≡ on left' k' → walk d (going l j) ts ≡ going left' k') → walk d (landed t.place s) ts ≡ going left' k'
     go (on l j) e ih = ih l j e
-    go (off f) e ih = let z : off f ≡ on left' k' = sym (strides_off d f (map bare ts)) ∙ e in let y : ◌≡◌ {A = ℕ} 0 1 = cc in absurd (omega arith)
+    go (off f) e ih = let z : off f ≡ on left' k' = sym (strides_off d f (map bare ts)) ∙ e in cc
 
 -- A bracket and a name.
 names : (d : Dialect) (x : Name) (left : ℕ) (k : List Want) (s : List Token) → strides d (on (suc left) (an_expr ∷ k)) (opening ∷ (word (name_bytes d x) ∷ s)) ≡ strides d (on left (wanted d x k)) s
@@ -124,7 +124,7 @@ refused d line f k e =
     record {
       known = k;
       leftmost = subst (Verdict d (tokens line)) e (verdict d (tokens line));
-      no_form = λ w q h. let (left, p) = form_passes d w (tokens line) h q in let z : fault f ≡ going left [] = sym e ∙ p in let y : ◌≡◌ {A = ℕ} 0 1 = cc in omega arith;
+      no_form = λ w q h. let (left, p) = form_passes d w (tokens line) h q in let z : fault f ≡ going left [] = sym e ∙ p in cc;
     }
 
 pub told_refused : (d : Dialect) (line : List ℕ) (f : FormFault) → Known line (length line) → Told f (judged d (tokens line)) → Refusal d line f

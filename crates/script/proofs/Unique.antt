@@ -54,8 +54,8 @@ same_name d e f s t q =
 -- The numbers of a mark end at its bracket.
 same_numbers : (ns ms : List ℕ) (s t : List Token) → map number ns ++ (closing ∷ s) ≡ map number ms ++ (closing ∷ t) → (ns ≡ ms) × (s ≡ t)
 same_numbers [] [] s t q = (refl, cc)
-same_numbers [] (m ∷ ms) s t q = let z : ◌≡◌ {A = ℕ} 0 1 = cc in absurd (omega arith)
-same_numbers (n ∷ ns) [] s t q = let z : ◌≡◌ {A = ℕ} 0 1 = cc in absurd (omega arith)
+same_numbers [] (m ∷ ms) s t q = cc
+same_numbers (n ∷ ns) [] s t q = cc
 same_numbers (n ∷ ns) (m ∷ ms) s t q =
     let h : n ≡ m = cc in let x = same_numbers ns ms s t (cc) in let x₀ = x.0 in (cc, x.1)
 
@@ -119,7 +119,7 @@ clash : {A : Type 0} {t u v : Token} → t ≡ u → t ≡ v → (u ≡ v → �
 clash p q n = absurd (n (sym p ∙ q))
 
 number_sign : (n b : ℕ) → number n ≡ sign b → ⊥
-number_sign n b e = let z : ◌≡◌ {A = ℕ} 0 1 = cc in omega arith
+number_sign n b e = cc
 
 abbrev byte : Token → ℕ
 byte (sign b) = b

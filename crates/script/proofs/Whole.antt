@@ -1,52 +1,53 @@
--- A line that begins with (lodge, as it is read to its end.
-use Rattle.std.proofs.Common.{◌≡◌, ℕ, List, [], ◌∷◌, ◌++◌, map, length, sym, ap, ◌∙◌, subst, arith}
+-- A line that is read to its end.
+use Rattle.std.proofs.Common.{◌≡◌, ℕ, List, [], ◌∷◌, ◌++◌, length, sym, refl, ap, ◌∙◌, subst, arith}
 use Rattle.expression.specs.declared.raw.RawNode.{RawNode}
 use Rattle.script.specs.Bytes.{Known}
 use Rattle.script.specs.Denoted.{Holds}
 use Rattle.script.specs.Dialects.{Dialect}
 use Rattle.script.specs.Forms.{lodge, bracketed, is_lodge}
 use Rattle.script.specs.Law.{Accepted, Refusal}
-use Rattle.script.specs.Lexing.{ahead}
-use Rattle.script.specs.Machine.{an_expr, the, headed, going, walk, judged}
-use Rattle.script.specs.Reading.{head_bytes, Told, Halted, Stuck, Passed, Ended, Read, Led}
-use Rattle.script.specs.Tokens as spec
-use Rattle.script.specs.Tokens.{bare, word, opening, closing}
+use Rattle.script.specs.Machine.{an_expr, the, going, walk, Told}
+use Rattle.script.specs.Reading.{Passed, Ended, Read, Led, Completed, Broken}
+use Rattle.script.specs.Tokens.{Placed, word, opening, closing, tokens}
 use Rattle.script.specs.declared.fault.FormFault.{FormFault}
 use Rattle.script.specs.declared.form.Form.{Form}
+use Rattle.script.specs.declared.name.FormName.{FormName}
 use Rattle.script.specs.declared.name.FormName.TheVariants.{Lodge}
-use Rattle.script.specs.declared.name.Lead.{Lead}
-use Rattle.script.specs.declared.name.Spot.{Spot}
 use Rattle.script.proofs.Only.{told_refused, none_wrong}
 
-module _ (d : Dialect) (line : List ℕ) (known : Known line (length line)) (l : Lead) (g : Led line l) (n : l.name ≡ Lodge) where
-  walked : judged d (spec.tokens line) ≡ walk d (going 255 (an_expr ∷ (the 41 ∷ (the 10 ∷ [])))) (ahead line l.at)
-  walked = g.walks d ∙ ap (λ x. walk d (going 255 (headed x [])) (ahead line l.at)) n
+-- What follows (lodge.
+module _ (d : Dialect) (ts us : List Placed) (left : ℕ) (was is : List RawNode) (r : Read d ts 255 left us was is) where
+  module _ (vs : List Placed) (p : Passed us 41 vs) where
+    through : walk d (going 255 (an_expr ∷ (the 41 ∷ (the 10 ∷ [])))) ts ≡ walk d (going left (the 10 ∷ [])) vs
+    through = r.walks (the 41 ∷ (the 10 ∷ [])) ∙ p.walks d left (the 10 ∷ [])
 
-  begun : map bare (spec.tokens line) ≡ opening ∷ (word is_lodge ∷ map bare (ahead line l.at))
-  begun = g.tokens ∙ ap (λ x. opening ∷ (word (head_bytes x) ∷ map bare (ahead line l.at))) n
+    pub lodges : (f : Form) → Holds d (lodge r.brackets) f → Ended vs → Completed d Lodge ts f
+    lodges f h e =
+        record {
+          left = left;
+          walks = through ∙ e.walks d left [];
+          form = lodge r.brackets;
+          tokens = ap (λ ts. word is_lodge ∷ ts) (sym (r.tokens ∙ ap (λ ts. bracketed d r.brackets ++ ts) (p.tokens ∙ ap (λ ts. closing ∷ ts) e.tokens)));
+          within = record { low = r.low; expr = r.expr; denotes = r.denotes; small = omega (arith, r.count) };
+          holds = h;
+        }
 
-  pub stuck_refused : (f : FormFault) → Stuck d line l.at 255 f → Refusal d line f
-  stuck_refused f t = told_refused d line f known (subst (Told f) (sym walked) (t (the 41 ∷ (the 10 ∷ []))))
+-- There is one form so far.
+pub one_name : (x : FormName) → x ≡ Lodge
+one_name Lodge = refl
 
-  module _ (s : Spot) (was is : List RawNode) (r : Read d line l.at 255 s was is) where
-    pub close_refused : (f : FormFault) → Halted line s.at (the 41) f → Refusal d line f
-    close_refused f t = told_refused d line f known (subst (Told f) (sym (walked ∙ r.walks (the 41 ∷ (the 10 ∷ [])))) (t d s.left (the 10 ∷ [])))
+-- A line that begins with the name of a form.
+module _ (d : Dialect) (line : List ℕ) (known : Known line (length line)) (x : FormName) (us : List Placed) (l : Led (tokens line) x us) where
+  pub accepted : (f : Form) → Completed d x us f → Accepted d line f
+  accepted f c =
+      record {
+        known = known;
+        form = c.form;
+        spells = ap (λ ts. opening ∷ ts) c.tokens ∙ sym l.tokens;
+        within = c.within;
+        holds = c.holds;
+        clean = none_wrong d (tokens line) c.left [] (l.walks d ∙ c.walks);
+      }
 
-    module _ (j : ℕ) (p : Passed line s.at 41 j) where
-      through : judged d (spec.tokens line) ≡ walk d (going s.left (the 10 ∷ [])) (ahead line j)
-      through = walked ∙ (r.walks (the 41 ∷ (the 10 ∷ [])) ∙ p.walks d s.left (the 10 ∷ []))
-
-      pub end_refused : (f : FormFault) → Halted line j (the 10) f → Refusal d line f
-      end_refused f t = told_refused d line f known (subst (Told f) (sym through) (t d s.left []))
-
-      pub lodged : (f : Form) → Holds d (lodge r.brackets) f → Ended line j → Accepted d line f
-      lodged f h e =
-          record {
-            known = known;
-            form = lodge r.brackets;
-            spells =
-                sym (begun ∙ ap (λ ts. opening ∷ (word is_lodge ∷ ts)) (r.tokens ∙ ap (λ ts. bracketed d r.brackets ++ ts) (p.tokens ∙ ap (λ ts. closing ∷ ts) e.tokens)));
-            within = record { low = r.low; expr = r.expr; denotes = r.denotes; small = omega (arith, r.count) };
-            holds = h;
-            clean = none_wrong d (spec.tokens line) s.left [] (through ∙ e.walks d s.left []);
-          }
+  pub refused : (f : FormFault) → Broken d x us f → Refusal d line f
+  refused f t = told_refused d line f known (subst (Told f) (sym (l.walks d)) t)

@@ -1,29 +1,30 @@
 -- Tokens begin a form exactly if each fits.
 use Rattle.std.proofs.Common.{◌≡◌, ℕ, zero, suc, Bool, true, false, cond, List, [], ◌∷◌, ◌++◌, map, length, Some, None, Option, sym, refl, ap, ◌∙◌, subst, append_assoc, append-nil, arith}
+use Rattle.std.specs.Str.{bytes_eq}
 use Rattle.script.specs.Dialects.{Dialect, marks, bytes, mark_word, mark_size}
 use Rattle.script.specs.Forms.{Brackets, mark, empty, pair, or, star, Written, lodge, inner, bracketed, body, spelled, Shaped, Formed, is_none, is_pair, is_or, is_star, is_lodge}
 use Rattle.script.specs.Law.{Begins}
 use Rattle.script.specs.Machine.{Want, an_expr, a_name, more, the, a_head, name_of, wanted, after_name, head_of, headed, after_head, fits, start}
 use Rattle.script.specs.Reading.{name_bytes, head_bytes}
-use Rattle.script.specs.Tokens.{Token, sign, word, number, opening, closing, finish, alike, same}
+use Rattle.script.specs.Tokens.{Token, sign, word, number, opening, closing, finish, same}
 use Rattle.script.specs.declared.name.FormName.{FormName}
 use Rattle.script.specs.declared.name.FormName.TheVariants.{Lodge}
 use Rattle.script.specs.declared.name.Name.{Name}
 use Rattle.script.specs.declared.name.Name.TheVariants.{Mark, Nothing, Pair, Or, Star}
-use Rattle.script.proofs.Same.{alike_true, same_refl, same_true, never, let_through}
+use Rattle.script.proofs.Same.{text_true, same_refl, same_true, never, let_through}
 
 -- The names.
 pub name_is : (d : Dialect) (w : List ℕ) (x : Name) → name_of d w ≡ Some x → w ≡ name_bytes d x
-name_is d w x = go (alike w (mark_word d)) (alike w is_none) (alike w is_pair) (alike w is_or) (alike w is_star) refl refl refl refl refl
+name_is d w x = go (bytes_eq w (mark_word d)) (bytes_eq w is_none) (bytes_eq w is_pair) (bytes_eq w is_or) (bytes_eq w is_star) refl refl refl refl refl
   where
-    go : (a b c g f : Bool) → alike w (mark_word d) ≡ a → alike w is_none ≡ b → alike w is_pair ≡ c → alike w is_or ≡ g → alike w is_star ≡ f
+    go : (a b c g f : Bool) → bytes_eq w (mark_word d) ≡ a → bytes_eq w is_none ≡ b → bytes_eq w is_pair ≡ c → bytes_eq w is_or ≡ g → bytes_eq w is_star ≡ f
         → cond a (Some Mark) (cond b (Some Nothing) (cond c (Some Pair) (cond g (Some Or) (cond f (Some Star) None)))) ≡ Some x
         → w ≡ name_bytes d x
-    go true b c g f pa pb pc pg pf e = let q : Mark ≡ x = cc in alike_true w (mark_word d) pa ∙ ap (name_bytes d) q
-    go false true c g f pa pb pc pg pf e = let q : Nothing ≡ x = cc in alike_true w is_none pb ∙ ap (name_bytes d) q
-    go false false true g f pa pb pc pg pf e = let q : Pair ≡ x = cc in alike_true w is_pair pc ∙ ap (name_bytes d) q
-    go false false false true f pa pb pc pg pf e = let q : Or ≡ x = cc in alike_true w is_or pg ∙ ap (name_bytes d) q
-    go false false false false true pa pb pc pg pf e = let q : Star ≡ x = cc in alike_true w is_star pf ∙ ap (name_bytes d) q
+    go true b c g f pa pb pc pg pf e = let q : Mark ≡ x = cc in text_true w (mark_word d) pa ∙ ap (name_bytes d) q
+    go false true c g f pa pb pc pg pf e = let q : Nothing ≡ x = cc in text_true w is_none pb ∙ ap (name_bytes d) q
+    go false false true g f pa pb pc pg pf e = let q : Pair ≡ x = cc in text_true w is_pair pc ∙ ap (name_bytes d) q
+    go false false false true f pa pb pc pg pf e = let q : Or ≡ x = cc in text_true w is_or pg ∙ ap (name_bytes d) q
+    go false false false false true pa pb pc pg pf e = let q : Star ≡ x = cc in text_true w is_star pf ∙ ap (name_bytes d) q
     go false false false false false pa pb pc pg pf e = never e
 
 pub name_again : (d : Dialect) (x : Name) → name_of d (name_bytes d x) ≡ Some x
@@ -39,10 +40,10 @@ name_again marks Star = refl
 name_again bytes Star = refl
 
 pub head_is : (w : List ℕ) (x : FormName) → head_of w ≡ Some x → w ≡ head_bytes x
-head_is w x = go (alike w is_lodge) refl
+head_is w x = go (bytes_eq w is_lodge) refl
   where
-    go : (a : Bool) → alike w is_lodge ≡ a → cond a (Some Lodge) None ≡ Some x → w ≡ head_bytes x
-    go true p e = let q : Lodge ≡ x = cc in alike_true w is_lodge p ∙ ap head_bytes q
+    go : (a : Bool) → bytes_eq w is_lodge ≡ a → cond a (Some Lodge) None ≡ Some x → w ≡ head_bytes x
+    go true p e = let q : Lodge ≡ x = cc in text_true w is_lodge p ∙ ap head_bytes q
     go false p e = never e
 
 -- The steps without the limits.

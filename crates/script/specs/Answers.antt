@@ -1,10 +1,11 @@
 -- How answers are written, and the figures of a refused line.
 use Rattle.std.specs.Prelude.{ℕ, Bool, true, false, List, [], ◌++◌, codes, decimal}
+use Rattle.figures.specs.Text.{figures_text}
+use Rattle.figures.specs.declared.Figures.{Figures}
 use Rattle.register.specs.Refusals as call
-use Rattle.register.specs.declared.refusal.Figures.{Figures}
 use Rattle.register.specs.declared.refusal.Refusal.{Refusal}
 use Rattle.register.specs.declared.refusal.Refusal.TheVariants as refusal
-use Rattle.script.specs.Faults.{number, place}
+use Rattle.script.specs.Faults.{form_figures}
 use Rattle.script.specs.declared.answer.Answer.{Answer}
 use Rattle.script.specs.declared.answer.Answer.TheVariants.{Lodged}
 use Rattle.script.specs.declared.answer.LineFault.{LineFault}
@@ -13,27 +14,24 @@ use Rattle.script.specs.declared.fault.FormFault.{FormFault}
 use Rattle.script.specs.declared.fault.FormFault.TheVariants.{Token, Misfit, TooManyNodes, NoMemory}
 
 -- The answer to an accepted line.
-abbrev pub answer_text : Answer → List ℕ
-answer_text (Lodged n) = codes "(lodged " ++ (decimal n ++ codes ")\n")
+abbrev pub answer_words : Answer → List ℕ
+answer_words (Lodged n) = codes "(lodged " ++ (decimal n ++ codes ")")
 
--- A refusal, by its number and its two values.
+-- That answer as a line of its own.
+abbrev pub answer_text : Answer → List ℕ
+answer_text a = answer_words a ++ codes "\n"
+
+-- A refusal as a line of its own, by its number and its two values.
 abbrev pub refused_text : Figures → List ℕ
-refused_text f = codes "(refused " ++ (decimal f.number ++ (codes " " ++ (decimal f.first ++ (codes " " ++ (decimal f.second ++ codes ")\n")))))
+refused_text f = figures_text f ++ codes "\n"
 
 -- An offending line, as the bytes that it is.
 abbrev pub shown_text : List ℕ → List ℕ
 shown_text line = codes "> " ++ (line ++ codes "\n")
 
--- The fault of a form is told by its line and its place there.
-abbrev pub placed_figures : FormFault → ℕ → Figures
-placed_figures f line = record { number = number f; first = line; second = place f }
-
 -- The number and the two values of a refused line, from its number.
 abbrev pub line_figures : LineFault → ℕ → Figures
-line_figures (Form (Token f)) line = placed_figures (Token f) line
-line_figures (Form (Misfit p)) line = placed_figures (Misfit p) line
-line_figures (Form (TooManyNodes p)) line = placed_figures (TooManyNodes p) line
-line_figures (Form NoMemory) line = call.figures refusal.NoMemory
+line_figures (Form f) line = form_figures f line
 line_figures (Call e) line = call.figures e
 line_figures TooLong line = record { number = 54; first = 0; second = 0 }
 

@@ -1,5 +1,5 @@
 -- The two dialects, and how each writes a letter: a mark is a word and its numbers.
-use Rattle.std.specs.Prelude.{ℕ, cond, List, [], ◌∷◌, Some, None, codes, Option, ◌==◌}
+use Rattle.std.specs.Prelude.{ℕ, if◌then◌else◌, List, [], ◌∷◌, Some, None, codes, Option, ◌==◌}
 use Rattle.alphabet.specs.Codes.{byte_letter, mark_code, mark_named}
 use Rattle.alphabet.specs.declared.mark.Mark.{Mark}
 
@@ -10,7 +10,7 @@ pub data Dialect : Type 0 where
 
 -- The dialect that a number tells: 0 tells marks, and any other bytes.
 abbrev pub dialect : ℕ → Dialect
-dialect kind = cond (kind == 0) marks bytes
+dialect kind = if kind == 0 then marks else bytes
 
 -- The word that a mark begins with.
 abbrev pub mark_word : Dialect → List ℕ

@@ -1,5 +1,5 @@
 -- What reading a line says, in the words of the forms.
-use Rattle.std.specs.Prelude.{◌≡◌, ℕ, ◌+◌, ◌<◌, cond, List, [], ◌∷◌, ◌++◌, map, length, None}
+use Rattle.std.specs.Prelude.{◌≡◌, ℕ, ◌+◌, ◌<◌, if◌then◌else◌, List, [], ◌∷◌, ◌++◌, map, length, None}
 use Rattle.script.specs.Bytes.{Known, Spoiled}
 use Rattle.script.specs.Denoted.{Within, Holds}
 use Rattle.script.specs.Dialects.{Dialect, mark_word, mark_size, code_named}
@@ -21,7 +21,7 @@ pub record Begins (d : Dialect) (ts : List Token) : Type 0 where
 -- How many opening brackets there are.
 abbrev pub opens : List Token → ℕ
 opens [] = 0
-opens (t ∷ ts) = cond (same t opening) 1 0 + opens ts
+opens (t ∷ ts) = (if same t opening then 1 else 0) + opens ts
 
 -- What is wrong with the token t at the place p, after the tokens before it.
 pub data Wrong (d : Dialect) (before : List Token) (t : Token) (p : ℕ) : FormFault → Type 0 where

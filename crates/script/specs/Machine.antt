@@ -1,11 +1,12 @@
 -- Reading token by token: what is still wanted, and how many nodes may still open. This file serves the proofs only.
-use Rattle.std.specs.Prelude.{ℕ, zero, suc, pred, Bool, true, false, cond, List, [], ◌∷◌, ◌++◌, Some, None, Option, ◌==◌, nat_lt}
+use Rattle.std.specs.Prelude.{◌≡◌, ℕ, zero, suc, pred, Bool, true, false, if◌then◌else◌, List, [], ◌∷◌, ◌++◌, Some, None, Option, ◌==◌, nat_lt}
+use Rattle.std.specs.Str.{bytes_eq}
 use Rattle.script.specs.Dialects.{Dialect, mark_word, mark_size, code_named}
 use Rattle.script.specs.Forms.{is_none, is_pair, is_or, is_star, is_lodge}
-use Rattle.script.specs.Tokens.{Token, sign, word, number, opening, closing, alike, same, Placed}
-use Rattle.script.specs.declared.fault.TokenFault.TheVariants.{TooLarge}
+use Rattle.script.specs.Tokens.{Token, sign, word, number, opening, closing, same, Placed}
+use Rattle.script.specs.declared.fault.TokenFault.TheVariants.{BadByte, TooLarge}
 use Rattle.script.specs.declared.fault.FormFault.{FormFault}
-use Rattle.script.specs.declared.fault.FormFault.TheVariants.{Token as OfToken, Misfit, TooManyNodes}
+use Rattle.script.specs.declared.fault.FormFault.TheVariants.{Token as OfToken, Misfit, TooManyNodes, NoMemory}
 use Rattle.script.specs.declared.name.FormName.{FormName}
 use Rattle.script.specs.declared.name.FormName.TheVariants.{Lodge}
 use Rattle.script.specs.declared.name.Name.{Name}
@@ -27,9 +28,12 @@ pub data Want : Type 0 where
 -- The name of an expression.
 abbrev pub name_of : Dialect → List ℕ → Option Name
 name_of d w =
-    cond (alike w (mark_word d)) (Some Mark)
-    (cond (alike w is_none) (Some Nothing)
-    (cond (alike w is_pair) (Some Pair) (cond (alike w is_or) (Some Or) (cond (alike w is_star) (Some Star) None))))
+    if bytes_eq w (mark_word d) then Some Mark
+    else if bytes_eq w is_none then Some Nothing
+    else if bytes_eq w is_pair then Some Pair
+    else if bytes_eq w is_or then Some Or
+    else if bytes_eq w is_star then Some Star
+    else None
 
 -- What is wanted after a name.
 abbrev pub wanted : Dialect → Name → List Want → List Want
@@ -45,7 +49,7 @@ after_name d None k = None
 
 -- The name of a form.
 abbrev pub head_of : List ℕ → Option FormName
-head_of w = cond (alike w is_lodge) (Some Lodge) None
+head_of w = if bytes_eq w is_lodge then Some Lodge else None
 
 -- What is wanted after the name of a form.
 abbrev pub headed : FormName → List Want → List Want
@@ -57,15 +61,15 @@ after_head None k = None
 
 -- What is wanted after the token, where it fits the first want.
 abbrev pub fit : Dialect → Want → Token → List Want → Option (List Want)
-fit d an_expr t k = cond (same t opening) (Some (a_name ∷ k)) None
+fit d an_expr t k = if same t opening then Some (a_name ∷ k) else None
 fit d a_name (sign b) k = None
 fit d a_name (word w) k = after_name d (name_of d w) k
 fit d a_name (number n) k = None
-fit d (more zero ns) t k = cond (same t closing) (Some k) None
+fit d (more zero ns) t k = if same t closing then Some k else None
 fit d (more (suc i) ns) (sign b) k = None
 fit d (more (suc i) ns) (word w) k = None
 fit d (more (suc i) ns) (number n) k = Some (more i (ns ++ n ∷ []) ∷ k)
-fit d (the b) t k = cond (same t (sign b)) (Some k) None
+fit d (the b) t k = if same t (sign b) then Some k else None
 fit d a_head (sign b) k = None
 fit d a_head (word w) k = after_head (head_of w) k
 fit d a_head (number n) k = None
@@ -116,11 +120,11 @@ opening_node (a_head ∷ k) = false
 
 -- A node that opens is one less that may.
 abbrev pub counted : ℕ → Bool → List Want → Step
-counted left b k = cond b (cond (left == 0) (off TooManyNodes) (on (pred left) k)) (on left k)
+counted left b k = if b then (if left == 0 then off TooManyNodes else on (pred left) k) else on left k
 
 -- A token that fits, by the limits; k' is wanted after it.
 abbrev pub limited : Dialect → ℕ → List Want → Token → List Want → Step
-limited d left k t k' = cond (large t) (off too_large) (cond (odd d k) (off Misfit) (counted left (opening_node k) k'))
+limited d left k t k' = if large t then off too_large else if odd d k then off Misfit else counted left (opening_node k) k'
 
 abbrev pub fitted : Dialect → ℕ → List Want → Token → Option (List Want) → Step
 fitted d left k t None = off Misfit
@@ -148,3 +152,11 @@ walk d s (t ∷ ts) = walk d (next d s t) ts
 
 abbrev pub judged : Dialect → List Placed → State
 judged d ts = walk d (going 255 start) ts
+
+-- The fault tells how the walk ends; where memory ran out it tells nothing.
+abbrev pub Told : FormFault → State → Type 0
+Told (OfToken (BadByte p)) s = ⊥
+Told (OfToken (TooLarge p)) s = s ≡ fault (OfToken (TooLarge p))
+Told (Misfit p) s = s ≡ fault (Misfit p)
+Told (TooManyNodes p) s = s ≡ fault (TooManyNodes p)
+Told NoMemory s = Unit {0}

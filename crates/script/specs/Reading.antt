@@ -1,27 +1,19 @@
--- What the functions of the reader say of the walk. This file serves the proofs only.
-use Rattle.std.specs.Prelude.{◌≡◌, ℕ, suc, ◌+◌, ◌-◌, ◌<◌, ◌≤◌, List, [], ◌∷◌, ◌++◌, map, length, Some, Option}
+-- What the functions of the reader say of the walk: ts are the tokens before a call, and us those after it. This file serves the proofs only.
+use Rattle.std.specs.Prelude.{◌≡◌, ℕ, suc, ◌+◌, ◌-◌, ◌<◌, ◌≤◌, List, [], ◌∷◌, ◌++◌, map, Some, Option}
 use Rattle.expression.specs.Expressions.{Expr}
 use Rattle.expression.specs.declared.raw.RawNode.{RawNode}
 use Rattle.expression.specs.declared.raw.RawNode.TheVariants as raw
-use Rattle.script.specs.Denoted.{denoted, postfix}
+use Rattle.script.specs.Denoted.{denoted, postfix, Within, Holds}
 use Rattle.script.specs.Dialects.{Dialect, mark_word, mark_size, code_named}
-use Rattle.script.specs.Forms.{Brackets, bracketed, nodes, AllLow, Low, is_none, is_pair, is_or, is_star, is_lodge}
-use Rattle.script.specs.Lexing.{ahead}
-use Rattle.script.specs.Machine.{Want, an_expr, more, the, wanted, headed, State, going, fault, walk, judged}
-use Rattle.script.specs.Tokens as spec
-use Rattle.script.specs.Tokens.{bare, word, number, opening, closing, tokens}
-use Rattle.script.specs.declared.fault.TokenFault.TheVariants.{BadByte, TooLarge}
+use Rattle.script.specs.Forms.{Brackets, Written, bracketed, body, nodes, AllLow, Low, is_none, is_pair, is_or, is_star, is_lodge}
+use Rattle.script.specs.Machine.{Want, an_expr, more, the, wanted, headed, going, walk, judged, Told}
+use Rattle.script.specs.Tokens.{Placed, bare, sign, word, number, opening, closing, finish}
 use Rattle.script.specs.declared.fault.FormFault.{FormFault}
-use Rattle.script.specs.declared.fault.FormFault.TheVariants.{Token as OfToken, Misfit, TooManyNodes, NoMemory}
+use Rattle.script.specs.declared.form.Form.{Form}
 use Rattle.script.specs.declared.name.FormName.{FormName}
 use Rattle.script.specs.declared.name.FormName.TheVariants.{Lodge}
-use Rattle.script.specs.declared.name.Head.{Head}
-use Rattle.script.specs.declared.name.Lead.{Lead}
 use Rattle.script.specs.declared.name.Name.{Name}
 use Rattle.script.specs.declared.name.Name.TheVariants.{Mark, Nothing, Pair, Or, Star}
-use Rattle.script.specs.declared.name.Letter.{Letter}
-use Rattle.script.specs.declared.name.Number.{Number}
-use Rattle.script.specs.declared.name.Spot.{Spot}
 
 -- The bytes of a name.
 abbrev pub name_bytes : Dialect → Name → List ℕ
@@ -42,91 +34,88 @@ joint_of Star = raw.Pair
 abbrev pub head_bytes : FormName → List ℕ
 head_bytes Lodge = is_lodge
 
--- The fault tells how the walk ends; where memory ran out it tells nothing.
-abbrev pub Told : FormFault → State → Type 0
-Told (OfToken (BadByte p)) s = ⊥
-Told (OfToken (TooLarge p)) s = s ≡ fault (OfToken (TooLarge p))
-Told (Misfit p) s = s ≡ fault (Misfit p)
-Told (TooManyNodes p) s = s ≡ fault (TooManyNodes p)
-Told NoMemory s = Unit {0}
-
 -- The walk stops at what is wanted first.
-abbrev pub Halted : List ℕ → ℕ → Want → FormFault → Type 0
-Halted line i w f = (d : Dialect) (left : ℕ) (k : List Want) → Told f (walk d (going left (w ∷ k)) (ahead line i))
+abbrev pub Halted : List Placed → Want → FormFault → Type 0
+Halted ts w f = (d : Dialect) (left : ℕ) (k : List Want) → Told f (walk d (going left (w ∷ k)) ts)
 
 -- The walk goes by the sign that is wanted first.
-pub record Passed (line : List ℕ) (i b j : ℕ) : Type 0 where
-  pub within : j ≤ length line
-  pub walks : (d : Dialect) (left : ℕ) (k : List Want) → walk d (going left (the b ∷ k)) (ahead line i) ≡ walk d (going left k) (ahead line j)
-  pub tokens : map bare (ahead line i) ≡ spec.sign b ∷ map bare (ahead line j)
+pub record Passed (ts : List Placed) (b : ℕ) (us : List Placed) : Type 0 where
+  pub walks : (d : Dialect) (left : ℕ) (k : List Want) → walk d (going left (the b ∷ k)) ts ≡ walk d (going left k) us
+  pub tokens : map bare ts ≡ sign b ∷ map bare us
 
 -- The line ends where its end is wanted.
-pub record Ended (line : List ℕ) (i : ℕ) : Type 0 where
-  pub walks : (d : Dialect) (left : ℕ) (k : List Want) → walk d (going left (the 10 ∷ k)) (ahead line i) ≡ going left k
-  pub tokens : map bare (ahead line i) ≡ spec.finish ∷ []
+pub record Ended (ts : List Placed) : Type 0 where
+  pub walks : (d : Dialect) (left : ℕ) (k : List Want) → walk d (going left (the 10 ∷ k)) ts ≡ going left k
+  pub tokens : map bare ts ≡ finish ∷ []
 
 -- The walk goes by a number of a mark.
-pub record Numbered (line : List ℕ) (i : ℕ) (n : Number) : Type 0 where
-  pub within : n.at ≤ length line
-  pub low : n.value ≤ 65535
-  pub walks : (d : Dialect) (left m : ℕ) (ns : List ℕ) (k : List Want) → walk d (going left (more (suc m) ns ∷ k)) (ahead line i) ≡ walk d (going left (more m (ns ++ n.value ∷ []) ∷ k)) (ahead line n.at)
-  pub tokens : map bare (ahead line i) ≡ number n.value ∷ map bare (ahead line n.at)
+pub record Numbered (ts : List Placed) (n : ℕ) (us : List Placed) : Type 0 where
+  pub low : n ≤ 65535
+  pub walks : (d : Dialect) (left m : ℕ) (ns : List ℕ) (k : List Want) → walk d (going left (more (suc m) ns ∷ k)) ts ≡ walk d (going left (more m (ns ++ n ∷ []) ∷ k)) us
+  pub tokens : map bare ts ≡ number n ∷ map bare us
 
 -- The walk stops where a number of a mark is wanted.
-abbrev pub Uncounted : List ℕ → ℕ → FormFault → Type 0
-Uncounted line i f = (d : Dialect) (left m : ℕ) (ns : List ℕ) (k : List Want) → Told f (walk d (going left (more (suc m) ns ∷ k)) (ahead line i))
+abbrev pub Uncounted : List Placed → FormFault → Type 0
+Uncounted ts f = (d : Dialect) (left m : ℕ) (ns : List ℕ) (k : List Want) → Told f (walk d (going left (more (suc m) ns ∷ k)) ts)
 
--- The walk goes by the bracket that closes a mark whose numbers name the code.
-pub record Sealed (line : List ℕ) (i : ℕ) (code : Option ℕ) (l : Letter) : Type 0 where
-  pub within : l.at ≤ length line
-  pub walks : (d : Dialect) (left : ℕ) (ns : List ℕ) (k : List Want) → code_named d ns ≡ code → walk d (going left (more 0 ns ∷ k)) (ahead line i) ≡ walk d (going left k) (ahead line l.at)
-  pub tokens : map bare (ahead line i) ≡ closing ∷ map bare (ahead line l.at)
-  pub named : code ≡ Some l.code
+-- The walk goes by the bracket that closes a mark whose numbers name the code c.
+pub record Sealed (ts : List Placed) (code : Option ℕ) (c : ℕ) (us : List Placed) : Type 0 where
+  pub walks : (d : Dialect) (left : ℕ) (ns : List ℕ) (k : List Want) → code_named d ns ≡ code → walk d (going left (more 0 ns ∷ k)) ts ≡ walk d (going left k) us
+  pub tokens : map bare ts ≡ closing ∷ map bare us
+  pub named : code ≡ Some c
 
-abbrev pub Unsealed : List ℕ → ℕ → Option ℕ → FormFault → Type 0
-Unsealed line i code f = (d : Dialect) (left : ℕ) (ns : List ℕ) (k : List Want) → code_named d ns ≡ code → Told f (walk d (going left (more 0 ns ∷ k)) (ahead line i))
+abbrev pub Unsealed : List Placed → Option ℕ → FormFault → Type 0
+Unsealed ts code f = (d : Dialect) (left : ℕ) (ns : List ℕ) (k : List Want) → code_named d ns ≡ code → Told f (walk d (going left (more 0 ns ∷ k)) ts)
 
--- The walk goes by the numbers of a mark and its bracket.
-pub record Lettered (d : Dialect) (line : List ℕ) (i : ℕ) (l : Letter) : Type 0 where
-  pub within : l.at ≤ length line
+-- The walk goes by the numbers of a mark and its bracket; the mark names the code c.
+pub record Lettered (d : Dialect) (ts : List Placed) (c : ℕ) (us : List Placed) : Type 0 where
   pub numbers : List ℕ
   pub low : AllLow numbers
-  pub walks : (left : ℕ) (k : List Want) → walk d (going left (more (mark_size d) [] ∷ k)) (ahead line i) ≡ walk d (going left k) (ahead line l.at)
-  pub tokens : map bare (ahead line i) ≡ map number numbers ++ (closing ∷ map bare (ahead line l.at))
-  pub named : code_named d numbers ≡ Some l.code
+  pub walks : (left : ℕ) (k : List Want) → walk d (going left (more (mark_size d) [] ∷ k)) ts ≡ walk d (going left k) us
+  pub tokens : map bare ts ≡ map number numbers ++ (closing ∷ map bare us)
+  pub named : code_named d numbers ≡ Some c
 
-abbrev pub Unlettered : Dialect → List ℕ → ℕ → FormFault → Type 0
-Unlettered d line i f = (left : ℕ) (k : List Want) → Told f (walk d (going left (more (mark_size d) [] ∷ k)) (ahead line i))
+abbrev pub Unlettered : Dialect → List Placed → FormFault → Type 0
+Unlettered d ts f = (left : ℕ) (k : List Want) → Told f (walk d (going left (more (mark_size d) [] ∷ k)) ts)
 
 -- The walk stops within the expression that is wanted first.
-abbrev pub Stuck : Dialect → List ℕ → ℕ → ℕ → FormFault → Type 0
-Stuck d line i left f = (k : List Want) → Told f (walk d (going left (an_expr ∷ k)) (ahead line i))
+abbrev pub Stuck : Dialect → List Placed → ℕ → FormFault → Type 0
+Stuck d ts left f = (k : List Want) → Told f (walk d (going left (an_expr ∷ k)) ts)
 
 -- The walk goes by the bracket and the name of an expression.
-pub record Headed (d : Dialect) (line : List ℕ) (i left : ℕ) (h : Head) : Type 0 where
-  pub within : h.at ≤ length line
+pub record Headed (d : Dialect) (ts : List Placed) (left : ℕ) (x : Name) (us : List Placed) : Type 0 where
   pub some : 0 < left
-  pub walks : (k : List Want) → walk d (going left (an_expr ∷ k)) (ahead line i) ≡ walk d (going (left - 1) (wanted d h.name k)) (ahead line h.at)
-  pub tokens : map bare (ahead line i) ≡ opening ∷ (word (name_bytes d h.name) ∷ map bare (ahead line h.at))
+  pub walks : (k : List Want) → walk d (going left (an_expr ∷ k)) ts ≡ walk d (going (left - 1) (wanted d x k)) us
+  pub tokens : map bare ts ≡ opening ∷ (word (name_bytes d x) ∷ map bare us)
 
--- The walk goes by an expression, whose nodes were added to the table.
-pub record Read (d : Dialect) (line : List ℕ) (i left : ℕ) (s : Spot) (was is : List RawNode) : Type 0 where
-  pub within : s.at ≤ length line
-  pub less : s.left < left
-  pub walks : (k : List Want) → walk d (going left (an_expr ∷ k)) (ahead line i) ≡ walk d (going s.left k) (ahead line s.at)
+-- The walk goes by an expression, after which l nodes may open, and whose nodes were added to the table.
+pub record Read (d : Dialect) (ts : List Placed) (left l : ℕ) (us : List Placed) (was is : List RawNode) : Type 0 where
+  pub less : l < left
+  pub walks : (k : List Want) → walk d (going left (an_expr ∷ k)) ts ≡ walk d (going l k) us
   pub brackets : Brackets
-  pub tokens : map bare (ahead line i) ≡ bracketed d brackets ++ map bare (ahead line s.at)
+  pub tokens : map bare ts ≡ bracketed d brackets ++ map bare us
   pub low : Low brackets
   pub expr : Expr
   pub denotes : denoted d brackets ≡ Some expr
   pub table : is ≡ was ++ postfix expr
-  pub count : s.left + nodes brackets ≡ left
+  pub count : l + nodes brackets ≡ left
 
 -- The walk goes by the bracket and the name of a form.
-pub record Led (line : List ℕ) (l : Lead) : Type 0 where
-  pub within : l.at ≤ length line
-  pub walks : (d : Dialect) → judged d (spec.tokens line) ≡ walk d (going 255 (headed l.name [])) (ahead line l.at)
-  pub tokens : map bare (spec.tokens line) ≡ opening ∷ (word (head_bytes l.name) ∷ map bare (ahead line l.at))
+pub record Led (ts : List Placed) (x : FormName) (us : List Placed) : Type 0 where
+  pub walks : (d : Dialect) → judged d ts ≡ walk d (going 255 (headed x [])) us
+  pub tokens : map bare ts ≡ opening ∷ (word (head_bytes x) ∷ map bare us)
 
-abbrev pub Unled : List ℕ → FormFault → Type 0
-Unled line f = (d : Dialect) → Told f (judged d (spec.tokens line))
+abbrev pub Unled : List Placed → FormFault → Type 0
+Unled ts f = (d : Dialect) → Told f (judged d ts)
+
+-- The walk goes by what follows the name of a form, to the line's end, and the code holds the form.
+pub record Completed (d : Dialect) (x : FormName) (ts : List Placed) (f : Form) : Type 0 where
+  pub left : ℕ
+  pub walks : walk d (going 255 (headed x [])) ts ≡ going left []
+  pub form : Written
+  pub tokens : body d form ≡ word (head_bytes x) ∷ map bare ts
+  pub within : Within d form
+  pub holds : Holds d form f
+
+abbrev pub Broken : Dialect → FormName → List Placed → FormFault → Type 0
+Broken d x ts f = Told f (walk d (going 255 (headed x [])) ts)

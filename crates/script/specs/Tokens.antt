@@ -1,5 +1,6 @@
 -- What a line of a script is cut into.
-use Rattle.std.specs.Prelude.{ℕ, ◌+◌, ◌-◌, ◌*◌, Bool, true, false, cond, ◌&&◌, ◌||◌, List, [], ◌∷◌, ◌++◌, ◌==◌, nat_le}
+use Rattle.std.specs.Prelude.{ℕ, ◌+◌, ◌-◌, ◌*◌, Bool, false, if◌then◌else◌, ◌&&◌, ◌||◌, List, [], ◌∷◌, ◌++◌, ◌==◌, nat_le}
+use Rattle.std.specs.Str.{bytes_eq}
 use Rattle.script.specs.declared.token.Run.{Run}
 use Rattle.script.specs.declared.token.Run.TheVariants.{Letters, Digits}
 
@@ -19,20 +20,13 @@ closing = sign 41
 abbrev pub finish : Token
 finish = sign 10
 
--- Whether two texts are one.
-abbrev pub alike : List ℕ → List ℕ → Bool
-alike [] [] = true
-alike [] (y ∷ ys) = false
-alike (x ∷ xs) [] = false
-alike (x ∷ xs) (y ∷ ys) = x == y && alike xs ys
-
 -- Whether two tokens are one.
 abbrev pub same : Token → Token → Bool
 same (sign a) (sign b) = a == b
 same (sign a) (word w) = false
 same (sign a) (number n) = false
 same (word v) (sign b) = false
-same (word v) (word w) = alike v w
+same (word v) (word w) = bytes_eq v w
 same (word v) (number n) = false
 same (number m) (sign b) = false
 same (number m) (word w) = false
@@ -94,8 +88,10 @@ pub data Begun : Type 0 where
 -- The byte b at i where no run goes on; rest is what follows.
 abbrev pub fresh : ℕ → ℕ → (Begun → List Placed) → List Placed
 fresh i b rest =
-    cond (letter b) (rest (begun Letters (b ∷ []) i))
-    (cond (digit b) (rest (begun Digits (b ∷ []) i)) (cond (mark b) (at i (sign b) ∷ rest idle) (rest idle)))
+    if letter b then rest (begun Letters (b ∷ []) i)
+    else if digit b then rest (begun Digits (b ∷ []) i)
+    else if mark b then at i (sign b) ∷ rest idle
+    else rest idle
 
 -- The tokens of bytes of which the first has the index i, after what was begun.
 abbrev pub lexed : Begun → ℕ → List ℕ → List Placed
@@ -103,8 +99,8 @@ lexed idle i [] = at i finish ∷ []
 lexed (begun r w s) i [] = at s (run_token r w) ∷ (at i finish ∷ [])
 lexed idle i (b ∷ bs) = fresh i b (λ q. lexed q (i + 1) bs)
 lexed (begun r w s) i (b ∷ bs) =
-    cond (belongs r b) (lexed (begun r (w ++ b ∷ []) s) (i + 1) bs)
-    (at s (run_token r w) ∷ fresh i b (λ q. lexed q (i + 1) bs))
+    if belongs r b then lexed (begun r (w ++ b ∷ []) s) (i + 1) bs
+    else at s (run_token r w) ∷ fresh i b (λ q. lexed q (i + 1) bs)
 
 -- The tokens of a line.
 abbrev pub tokens : List ℕ → List Placed

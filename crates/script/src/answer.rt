@@ -1,31 +1,32 @@
 //! What a line of a script is answered with, and how the answer is written.
-ghost use Rattle.std.specs.Prelude.{◌≡◌, IfOk, string_bytes};
-ghost use Rattle.script.specs.Answers.{answer_text, refused_text, line_figures, faulted_form, faulted_call, out_of_memory};
+ghost use Rattle.std.specs.Prelude.{◌≡◌, Some};
+ghost use Rattle.script.specs.Answers.{answer_words, line_figures, faulted_form, faulted_call, out_of_memory};
 
 use crate::fault::FormFault;
-use register::refusal::{Figures, Refusal};
-use std::alloc::{AllocError, Global};
+use figures::Figures;
+use register::refusal::Refusal;
+use std::fmt;
 
 /// What an accepted line did.
-#[derive(Clone, Copy)]
+#[derive(Clone, Copy, PartialEq, Eq, Debug)]
 pub enum Answer {
     /// A layout was lodged under this number.
     Lodged(usize),
 }
 
-impl Answer {
-    /// The answer as it is printed.
-    pub fn text(self, heap: Global) -> Result<String, AllocError>
-        ensures { IfOk result (λ s. string_bytes s ≡ answer_text self) }
-    {
-        match self {
-            Answer::Lodged(number) => format!(in heap; "(lodged {number})\n"),
+/// The answer as it is printed, as in `(lodged 3)`.
+impl fmt::Display for Answer {
+    ghost output = { λ a. Some (answer_words a) };
+
+    fn fmt<W: fmt::Write>(&self, f: &mut fmt::Formatter<W>) -> fmt::Result {
+        match *self {
+            Answer::Lodged(number) => write!(f, "(lodged {number})"),
         }
     }
 }
 
 /// Why a line is refused: it holds no form, or the register refused the form's call.
-#[derive(Clone, Copy)]
+#[derive(Clone, Copy, PartialEq, Eq, Debug)]
 pub enum LineFault {
     Form(FormFault),
     Call(Refusal),
@@ -39,13 +40,8 @@ impl LineFault {
         ensures { result ≡ line_figures self line }
     {
         match self {
-            LineFault::Form(FormFault::NoMemory) => Refusal::NoMemory.figures(),
-            LineFault::Form(fault) => Figures {
-                number: u16::from(fault.number()),
-                first: line,
-                second: fault.place(),
-            },
-            LineFault::Call(refusal) => refusal.figures(),
+            LineFault::Form(fault) => fault.figures(line),
+            LineFault::Call(refusal) => refusal.into(),
             LineFault::TooLong => Figures {
                 number: 54,
                 first: 0,
@@ -53,9 +49,7 @@ impl LineFault {
             },
         }
     }
-}
 
-impl LineFault {
     /// Whether memory ran out.
     pub(crate) fn is_memory(self) -> bool
         ensures { result ≡ out_of_memory self }
@@ -81,14 +75,4 @@ impl From<Refusal> for LineFault {
     fn from(call: Refusal) -> LineFault {
         LineFault::Call(call)
     }
-}
-
-/// A refusal as it is printed.
-pub fn refused_text(heap: Global, figures: Figures) -> Result<String, AllocError>
-    ensures { IfOk result (λ s. string_bytes s ≡ refused_text figures) }
-{
-    let number = figures.number;
-    let first = figures.first;
-    let second = figures.second;
-    format!(in heap; "(refused {number} {first} {second})\n")
 }

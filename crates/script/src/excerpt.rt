@@ -1,28 +1,26 @@
 //! Lines as parts of a text.
-ghost use Rattle.std.specs.Prelude.{◌≡◌};
+ghost use Rattle.std.specs.Prelude.{◌≡◌, [], slice_index_or};
 ghost use Rattle.script.specs.Lines.{numbered as line_numbered, text_of};
 ghost use Rattle.text.specs.Lines.{lines};
 
 use crate::source::{Excerpt, Source};
-use text::lines::next_line;
+use text::lines::lines;
+
+/// The line at an index, or nothing where the text has none.
+fn line_at<'a>(text: &'a [u8], index: usize) -> &'a [u8]
+    ensures { result.now ≡ slice_index_or (lines text.now) index [] }
+{
+    lines(text).nth(index).unwrap_or(&[])
+}
 
 /// The line with the number `line`, from 1, or nothing where the text has none.
 fn numbered<'a>(text: &'a [u8], line: usize) -> &'a [u8]
     ensures { result.now ≡ line_numbered (lines text.now) line }
 {
-    if line == 0 {
-        return &text[..0];
+    match line.checked_sub(1) {
+        Some(index) => line_at(text, index),
+        None => &[],
     }
-    let mut from = 0;
-    let mut left = line - 1;
-    while let Some(found) = next_line(text, from) {
-        if left == 0 {
-            return found.bytes;
-        }
-        left -= 1;
-        from = found.next;
-    }
-    &text[..0]
 }
 
 /// The line with the number `line`, from 1, of the text that `source` names; the empty part where it has no such line.

@@ -1,7 +1,12 @@
 //! What can be wrong with a line. Places count bytes from 1.
+ghost use Rattle.std.specs.Prelude.{◌≡◌};
+ghost use Rattle.script.specs.Faults.{form_figures, wrapped, no_memory};
+
+use figures::Figures;
+use std::alloc::AllocFailed;
 
 /// What is wrong with a token.
-#[derive(Clone, Copy)]
+#[derive(Clone, Copy, PartialEq, Eq, Debug)]
 pub enum TokenFault {
     /// A byte that no token has.
     BadByte(usize),
@@ -10,7 +15,7 @@ pub enum TokenFault {
 }
 
 /// What is wrong with a form.
-#[derive(Clone, Copy)]
+#[derive(Clone, Copy, PartialEq, Eq, Debug)]
 pub enum FormFault {
     Token(TokenFault),
     /// A token with which no form can go on, or the bracket that closes a mark that names no letter.
@@ -18,4 +23,41 @@ pub enum FormFault {
     /// The bracket of the 256th node.
     TooManyNodes(usize),
     NoMemory,
+}
+
+impl FormFault {
+    /// The number and the two values that are printed: what is wrong, the line, and the byte from 1 at which it is wrong.
+    pub fn figures(self, line: usize) -> Figures
+        ensures { result ≡ form_figures self line }
+    {
+        let (number, first, second) = match self {
+            FormFault::Token(TokenFault::BadByte(place)) => (51, line, place),
+            FormFault::Misfit(place) => (52, line, place),
+            FormFault::Token(TokenFault::TooLarge(place)) | FormFault::TooManyNodes(place) => {
+                (53, line, place)
+            }
+            FormFault::NoMemory => (1, 0, 0),
+        };
+        Figures {
+            number,
+            first,
+            second,
+        }
+    }
+}
+
+impl From<TokenFault> for FormFault {
+    ghost from_gives = { λ f r. r ≡ wrapped f };
+
+    fn from(f: TokenFault) -> FormFault {
+        FormFault::Token(f)
+    }
+}
+
+impl<T: Drop> From<AllocFailed<T>> for FormFault {
+    ghost from_gives = { λ _ r. r ≡ no_memory };
+
+    fn from(_refused: AllocFailed<T>) -> FormFault {
+        Self::NoMemory
+    }
 }

@@ -2,15 +2,16 @@
 #![tactic(auto)]
 
 pub mod answer;
+mod cursor;
 pub mod excerpt;
 pub mod fault;
-mod figures;
 pub mod form;
 pub mod input;
 pub mod kind;
 mod lexer;
 pub mod line;
 mod name;
+pub mod program;
 mod reader;
 pub mod running;
 pub mod source;

@@ -1,17 +1,19 @@
 //! Reading a line.
-ghost use Rattle.std.specs.Prelude.{◌≡◌, ◌≤◌, length, MatchResult};
+ghost use Rattle.std.specs.Prelude.{◌≡◌, length, MatchResult};
+ghost use Rattle.script.specs.Ahead.{ahead};
 ghost use Rattle.script.specs.Bytes.{Known};
 ghost use Rattle.script.specs.Dialects.{dialect};
 ghost use Rattle.script.specs.Law.{Accepted, Refusal};
 ghost use Rattle.script.specs.Machine.{the, head_of};
-ghost use Rattle.script.specs.Reading.{Halted, Ended, Led, Unled};
+ghost use Rattle.script.specs.Reading.{Halted, Ended, Led, Unled, Completed, Broken};
 ghost use Rattle.script.specs.declared.name.FormName.TheVariants.{Lodge};
 
+use crate::cursor::Cursor;
 use crate::fault::FormFault;
 use crate::form::Form;
-use crate::lexer::{check_bytes, take_token};
-use crate::name::{FormName, Lead};
-use crate::reader::{close, expr, is};
+use crate::lexer::check_bytes;
+use crate::name::FormName;
+use crate::reader::{close, expr};
 use crate::token::Sort;
 use std::alloc::Global;
 
@@ -19,56 +21,40 @@ use std::alloc::Global;
 const NODES: usize = 255;
 
 /// The name of a form that the text is.
-fn form_name(w: &[u8]) -> Option<FormName>
-    ensures { result ≡ head_of w.now }
+fn form_name(text: &[u8]) -> Option<FormName>
+    ensures { result ≡ head_of text.now }
 {
-    if is(w, b"lodge") {
-        return Some(FormName::Lodge);
+    match text {
+        b"lodge" => Some(FormName::Lodge),
+        _ => None,
     }
-    None
 }
 
 /// Reads the bracket and the name of a form.
-fn lead(line: &[u8]) -> Result<Lead, FormFault>
-    ensures { MatchResult result (λ l. Led line.now l) (λ f. Unled line.now f) }
+fn lead(line: &mut Cursor) -> Result<FormName, FormFault>
+    ensures { MatchResult result (λ x. Led (ahead line.old) x (ahead line.new)) (λ f. Unled (ahead line.old) f) }
 {
-    let t = take_token(line, 0);
-    let Sort::Open = t.sort else {
-        return Err(FormFault::Misfit(t.from + 1));
-    };
-    let u = take_token(line, t.to);
-    let Sort::Name = u.sort else {
-        return Err(FormFault::Misfit(u.from + 1));
-    };
-    match form_name(u.text(line)) {
-        Some(name) => Ok(Lead { name, at: u.to }),
-        None => Err(FormFault::Misfit(u.from + 1)),
-    }
+    line.expect(Sort::Open)?;
+    let name = line.expect(Sort::Name)?;
+    form_name(name.text).ok_or(FormFault::Misfit(name.place))
 }
 
 /// Reads the line's end.
-fn end(line: &[u8], at: usize) -> Result<(), FormFault>
-    requires { at ≤ length line.now }
-    ensures { MatchResult result (λ _. Ended line.now at) (λ f. Halted line.now at (the 10) f) }
+fn end(line: &mut Cursor) -> Result<(), FormFault>
+    ensures { MatchResult result (λ _. Ended (ahead line.old)) (λ f. Halted (ahead line.old) (the 10) f) }
 {
-    let t = take_token(line, at);
-    match t.sort {
-        Sort::End => Ok(()),
-        _ => Err(FormFault::Misfit(t.from + 1)),
-    }
+    line.expect(Sort::End)?;
+    Ok(())
 }
 
 /// Reads what follows `(lodge`, up to the line's end.
-fn lodge(heap: Global, kind: u8, line: &[u8], l: Lead) -> Result<Form, FormFault>
-    requires known { Known line.now (length line.now) }
-    requires led { Led line.now l }
-    requires name_value { l.name ≡ Lodge }
-    ensures { MatchResult result (λ f. Accepted (dialect kind) line.now f) (λ f. Refusal (dialect kind) line.now f) }
+fn lodge(heap: Global, kind: u8, line: &mut Cursor) -> Result<Form, FormFault>
+    ensures { MatchResult result (λ f. Completed (dialect kind) Lodge (ahead line.old) f) (λ f. Broken (dialect kind) Lodge (ahead line.old) f) }
 {
     let mut table = Vec::new(heap);
-    let s = expr(line, kind, l.at, NODES, &mut table)?;
-    let at = close(line, s.at)?;
-    end(line, at)?;
+    expr(kind, line, NODES, &mut table)?;
+    close(line)?;
+    end(line)?;
     Ok(Form::Lodge(table))
 }
 
@@ -77,9 +63,9 @@ fn form(heap: Global, kind: u8, line: &[u8]) -> Result<Form, FormFault>
     requires { Known line.now (length line.now) }
     ensures { MatchResult result (λ f. Accepted (dialect kind) line.now f) (λ f. Refusal (dialect kind) line.now f) }
 {
-    let l = lead(line)?;
-    match l.name {
-        FormName::Lodge => lodge(heap, kind, line, l),
+    let mut rest = Cursor::new(line);
+    match lead(&mut rest)? {
+        FormName::Lodge => lodge(heap, kind, &mut rest),
     }
 }
 
@@ -96,11 +82,14 @@ mod tests {
     use super::*;
     use crate::kind::{BYTES, MARKS};
 
-    // The number and the place of a fault; of a form 0 and its count of nodes.
-    fn told(r: Result<Form, FormFault>) -> (u8, usize) {
-        match r {
-            Ok(Form::Lodge(table)) => (0, table.len()),
-            Err(f) => (f.number(), f.place()),
+    // A form's count of nodes, or the number and the place of a fault.
+    fn told(read: Result<Form, FormFault>) -> Result<usize, (u16, usize)> {
+        match read {
+            Ok(Form::Lodge(table)) => Ok(table.len()),
+            Err(fault) => {
+                let figures = fault.figures(1);
+                Err((figures.number, figures.second))
+            }
         }
     }
 
@@ -109,7 +98,7 @@ mod tests {
     struct Row<'a> {
         kind: u8,
         line: &'a [u8],
-        told: (u8, usize),
+        told: Result<usize, (u16, usize)>,
     }
 
     #[test]
@@ -118,82 +107,82 @@ mod tests {
             Row {
                 kind: BYTES,
                 line: b"(lodge (pair (b 1) (none)))",
-                told: (0, 3),
+                told: Ok(3),
             },
             Row {
                 kind: 7,
                 line: b"(lodge(or(b 0255)(star(none))))  ",
-                told: (0, 4),
+                told: Ok(4),
             },
             Row {
                 kind: BYTES,
                 line: b"",
-                told: (52, 1),
+                told: Err((52, 1)),
             },
             Row {
                 kind: BYTES,
                 line: b"lodge ) X",
-                told: (51, 9),
+                told: Err((51, 9)),
             },
             Row {
                 kind: BYTES,
                 line: b"(lodge (b 300))",
-                told: (52, 14),
+                told: Err((52, 14)),
             },
             Row {
                 kind: BYTES,
                 line: b"(lodge (b 65536))",
-                told: (53, 11),
+                told: Err((53, 11)),
             },
             Row {
                 kind: BYTES,
                 line: b"(lodge 99999)",
-                told: (52, 8),
+                told: Err((52, 8)),
             },
             Row {
                 kind: BYTES,
                 line: b"(lodge (m 1 1))",
-                told: (52, 9),
+                told: Err((52, 9)),
             },
             Row {
                 kind: BYTES,
                 line: b"(lodge (none)) -",
-                told: (52, 16),
+                told: Err((52, 16)),
             },
             Row {
                 kind: BYTES,
                 line: b"(lodge (pair (none)",
-                told: (52, 20),
+                told: Err((52, 20)),
             },
             Row {
                 kind: MARKS,
                 line: b"(lodge (or (m 999 2) (star (m 0 0))))",
-                told: (0, 4),
+                told: Ok(4),
             },
             Row {
                 kind: MARKS,
                 line: b"(lodge (m 1000 1))",
-                told: (52, 17),
+                told: Err((52, 17)),
             },
             Row {
                 kind: MARKS,
                 line: b"(lodge (m 100 3))",
-                told: (52, 16),
+                told: Err((52, 16)),
             },
             Row {
                 kind: MARKS,
                 line: b"(lodge (m 1000 70000))",
-                told: (53, 16),
+                told: Err((53, 16)),
             },
             Row {
                 kind: MARKS,
                 line: b"(lodge (m 1))",
-                told: (52, 12),
+                told: Err((52, 12)),
             },
             Row {
                 kind: MARKS,
                 line: b"(lodge (b 1))",
-                told: (52, 9),
+                told: Err((52, 9)),
             },
         ];
         for row in rows {

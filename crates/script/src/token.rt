@@ -1,7 +1,7 @@
 //! What a line is cut into.
 
 /// The sort of a token. A name is a run of letters; the line's end is a token too.
-#[derive(Clone, Copy)]
+#[derive(Clone, Copy, PartialEq, Eq, Debug)]
 pub(crate) enum Sort {
     Open,
     Close,
@@ -11,16 +11,16 @@ pub(crate) enum Sort {
     End,
 }
 
-/// A token, which names its bytes: from and to.
+/// A token: its sort, the place of its first byte from 1, and its bytes.
 #[derive(Clone, Copy)]
-pub(crate) struct Token {
+pub(crate) struct Token<'a> {
     pub(crate) sort: Sort,
-    pub(crate) from: usize,
-    pub(crate) to: usize,
+    pub(crate) place: usize,
+    pub(crate) text: &'a [u8],
 }
 
 /// The bytes that go on in one token.
-#[derive(Clone, Copy)]
+#[derive(Clone, Copy, PartialEq, Eq, Debug)]
 pub(crate) enum Run {
     Letters,
     Digits,

@@ -1,66 +1,44 @@
--- Cutting a text into lines.
-use Rattle.std.proofs.Common.{◌≡◌, ℕ, ◌+◌, ◌<◌, ◌≤◌, min, cond, ◌⊎◌, List, [], ◌∷◌, ◌++◌, length, get_or, drop, sym, refl, ap, ◌∙◌, inl, inr, arith, eq-eqb, ne_eqb}
+-- Cutting the first line off a text.
+use Rattle.std.proofs.Common.{◌≡◌, ℕ, ◌+◌, ◌-◌, ◌<◌, ◌≤◌, min, Bool, true, false, cond, List, [], ◌∷◌, length, take, drop, Option, nat_eq, not, arith, sym, ◌∙◌, ap}
+use Rattle.std.proofs.lemmas.List.{drop-drop, drop_min, length-drop, take_all}
+use Rattle.std.proofs.lemmas.List.Sums.{prefix_len-le-length}
+use Rattle.std.specs.List.{position, position_or_len}
+use Rattle.std.specs.Option.{unwrap_or}
 use Rattle.text.specs.Lines.{lines, lengthened}
-use Rattle.text.specs.Parts.{part}
-use Rattle.text.proofs.Sections.{split, none_left, part_more, length_part}
 
--- Bytes before the first line.
-abbrev pub lengthenings : List ℕ → List (List ℕ) → List (List ℕ)
-lengthenings [] ls = ls
-lengthenings (b ∷ w) ls = lengthened b (lengthenings w ls)
+-- The length of the first line.
+abbrev first : List ℕ → ℕ
+first text = position_or_len (λ b. nat_eq b 10) text
 
-more : (w : List ℕ) (b : ℕ) (ls : List (List ℕ)) → lengthenings (w ++ b ∷ []) ls ≡ lengthenings w (lengthened b ls)
-more [] b ls = refl
-more (x ∷ w) b ls = ap (lengthened x) (more w b ls)
+first_is : (text : List ℕ) → unwrap_or (position (λ b. nat_eq b 10) text) (length text) ≡ first text
+first_is text = let l = prefix_len-le-length (λ b. not (nat_eq b 10)) text in grind arith
 
-whole : (w : List ℕ) (ls : List (List ℕ)) → lengthenings w ([] ∷ ls) ≡ w ∷ ls
-whole [] ls = refl
-whole (b ∷ w) ls = ap (lengthened b) (whole w ls)
+first_cut : (text : List ℕ) → 0 < length text → lines text ≡ take (first text) text ∷ lines (drop (first text + 1) text)
+first_cut [] h = absurd (omega arith)
+first_cut (b ∷ []) h = grind arith
+first_cut (b ∷ (c ∷ text)) h = let rest = first_cut (c ∷ text) (omega arith) in grind arith
 
-last : (b : ℕ) (w : List ℕ) → lengthenings (b ∷ w) [] ≡ (b ∷ w) ∷ []
-last b [] = refl
-last b (c ∷ w) = ap (lengthened b) (last c w)
+-- The line that begins at `from`, of n bytes, where there is one.
+pub cut : (text : List ℕ) (feed : Option ℕ) (from n next : ℕ) → from < length text
+    → feed ≡ position (λ b. nat_eq b 10) (take (length text - from) (drop from text))
+    → n ≡ unwrap_or feed (length (take (length text - from) (drop from text)))
+    → next ≡ min (from + n + 1) (length text)
+    → lines (drop from text) ≡ take n (take (length text - from) (drop from text)) ∷ lines (drop next text)
+cut text feed from n next h p e m =
+    let rest = take (length text - from) (drop from text) in
+    let size = length-drop from text in
+    let s : rest ≡ drop from text = take_all (length text - from) (drop from text) (omega arith) in
+    let f : n ≡ first rest = e ∙ ap (λ o. unwrap_or o (length rest)) p ∙ first_is rest in
+    let l : 0 < length rest = rw (s, length-drop) (omega arith) in
+    let r : drop (n + 1) rest ≡ drop next text = ap (drop (n + 1)) s ∙ drop-drop (n + 1) from text ∙ ap (λ k. drop k text) (omega arith) ∙ sym (drop_min (from + n + 1) text) ∙ ap (λ k. drop k text) (sym m) in
+    ap lines (sym s) ∙ first_cut rest l ∙ ap (λ k. take k rest ∷ lines (drop (k + 1) rest)) (sym f) ∙ ap (λ t. take n rest ∷ lines t) r
 
-last_some : (w : List ℕ) → 0 < length w → lengthenings w [] ≡ w ∷ []
-last_some [] h = absurd (omega arith)
-last_some (b ∷ w) h = last b w
-
-pub grown : (text : List ℕ) (i j : ℕ) → i ≤ j → j < length text → (get_or text j 0 ≡ 10 → ⊥)
-    → lengthenings (part text i j) (lines (drop j text)) ≡ lengthenings (part text i (j + 1)) (lines (drop (j + 1) text))
-grown text i j le h n =
-    ap (lengthenings (part text i j)) (ap lines (split text j h) ∙ ap (λ b. cond b ([] ∷ lines (drop (j + 1) text)) (lengthened (get_or text j 0) (lines (drop (j + 1) text)))) (ne_eqb (get_or text j 0) 10 n))
-    ∙ (sym (more (part text i j) (get_or text j 0) (lines (drop (j + 1) text))) ∙ ap (λ w. lengthenings w (lines (drop (j + 1) text))) (sym (part_more text i j le h)))
-
-pub cut_here : (text : List ℕ) (i j : ℕ) → j < length text → get_or text j 0 ≡ 10
-    → lengthenings (part text i j) (lines (drop j text)) ≡ part text i j ∷ lines (drop (j + 1) text)
-cut_here text i j h e =
-    ap (lengthenings (part text i j)) (ap lines (split text j h) ∙ ap (λ b. cond b ([] ∷ lines (drop (j + 1) text)) (lengthened (get_or text j 0) (lines (drop (j + 1) text)))) (eq-eqb (get_or text j 0) 10 e))
-    ∙ whole (part text i j) (lines (drop (j + 1) text))
-
-pub cut_end : (text : List ℕ) (i j : ℕ) → i < length text → j ≡ length text
-    → lengthenings (part text i j) (lines (drop j text)) ≡ part text i j ∷ lines (drop (j + 1) text)
-cut_end text i j h e =
-    let d = none_left text j (omega arith) in
-    let d' = none_left text (j + 1) (omega arith) in
-    let l : 0 < length (part text i j) = rw (length_part text i j (omega arith) (omega arith)) (omega arith) in
-    ap (λ x. lengthenings (part text i j) (lines x)) d ∙ (last_some (part text i j) l ∙ ap (λ x. part text i j ∷ lines x) (sym d'))
-
--- No line begins at the end of the text or past it.
-pub no_more : (text : List ℕ) (i : ℕ) → length text ≤ i → lines (drop i text) ≡ []
-no_more text i h = ap lines (none_left text i h)
-
--- From the end of the text on and from one past it, nothing is left.
-pub same_end : (text : List ℕ) (x : List ℕ) (j : ℕ) → length text ≤ j → x ∷ lines (drop (j + 1) text) ≡ x ∷ lines (drop j text)
-same_end text x j h = ap (λ ls. x ∷ ls) (no_more text (j + 1) (omega arith) ∙ sym (no_more text j h))
-
--- Where the line after one that ends at j begins.
-abbrev pub After : List ℕ → ℕ → ℕ → Type 0
-After text j n = ((j < length text) × (n ≡ j + 1)) ⊎ ((length text ≡ j) × (n ≡ j))
-
-pub after_next : (text : List ℕ) (i j n : ℕ) → i ≤ j → j ≤ length text → After text j n → n ≡ min (i + length (part text i j) + 1) (length text)
-after_next text i j n le h (inl a) = rw (length_part text i j le h) (omega (arith, a.0, a.1))
-after_next text i j n le h (inr a) = rw (length_part text i j le h) (omega (arith, a.0, a.1))
-
-pub after_rest : (text x : List ℕ) (j n : ℕ) → After text j n → x ∷ lines (drop (j + 1) text) ≡ x ∷ lines (drop n text)
-after_rest text x j n (inl a) = ap (λ k. x ∷ lines (drop k text)) (sym a.1)
-after_rest text x j n (inr a) = same_end text x j (omega (arith, a.0)) ∙ ap (λ k. x ∷ lines (drop k text)) (sym a.1)
+-- Each line has a byte of its own in the text.
+pub few : (text : List ℕ) → length (lines text) ≤ length text
+few [] = omega arith
+few (b ∷ text) = go (nat_eq b 10) (lines text) (few text)
+  where
+    go : (d : Bool) (ls : List (List ℕ)) → length ls ≤ length text → length (cond d ([] ∷ ls) (lengthened b ls)) ≤ length (b ∷ text)
+    go true ls h = omega arith
+    go false [] h = omega arith
+    go false (l ∷ ls) h = omega arith

@@ -1,5 +1,6 @@
 -- Parts of a text that grow byte by byte.
-use Rattle.std.proofs.Common.{◌≡◌, ℕ, zero, suc, ◌+◌, ◌-◌, ◌<◌, ◌≤◌, List, [], ◌∷◌, ◌++◌, length, get_or, take, drop, refl, ap, ◌∙◌, add-one, arith, length-drop, length-take-le, get_or-drop, drop-cons, take-suc}
+use Rattle.std.proofs.Common.{◌≡◌, ℕ, suc, ◌+◌, ◌-◌, ◌<◌, ◌≤◌, List, [], ◌∷◌, ◌++◌, length, get_or, take, drop, ap, ◌∙◌, add-one, arith, length-drop, get_or-drop, drop-cons, take-suc}
+use Rattle.std.proofs.lemmas.List.{drop_all}
 use Rattle.text.specs.Parts.{part}
 
 -- The byte at i and what follows it.
@@ -7,10 +8,7 @@ pub split : (text : List ℕ) (i : ℕ) → i < length text → drop i text ≡ 
 split text i h = rw add-one (drop-cons text i 0 h)
 
 pub none_left : (text : List ℕ) (i : ℕ) → length text ≤ i → drop i text ≡ []
-none_left [] zero h = refl
-none_left [] (suc i) h = refl
-none_left (x ∷ text) zero h = absurd (omega arith)
-none_left (x ∷ text) (suc i) h = none_left text i (omega arith)
+none_left text i h = drop_all i text h
 
 pub part_one : (text : List ℕ) (i : ℕ) → i < length text → part text i (i + 1) ≡ get_or text i 0 ∷ []
 part_one text i h =
@@ -23,7 +21,3 @@ part_more text i j le h =
     let l : j - i < length (drop i text) = simp length-drop (omega arith) in
     ap (λ n. take n (drop i text)) q
     ∙ (take-suc (drop i text) (j - i) 0 l ∙ ap (λ x. part text i j ++ x ∷ []) (get_or-drop i text (j - i) 0 ∙ ap (λ n. get_or text n 0) r))
-
-pub length_part : (text : List ℕ) (i j : ℕ) → i ≤ j → j ≤ length text → length (part text i j) ≡ j - i
-length_part text i j le h =
-    let l : j - i ≤ length (drop i text) = simp length-drop (omega arith) in length-take-le (j - i) (drop i text) l

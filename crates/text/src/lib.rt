@@ -1,4 +1,5 @@
 //! Texts and their lines.
 #![tactic(auto)]
 
+pub mod iter;
 pub mod lines;

@@ -1,7 +1,9 @@
 //! A text line by line.
-ghost use Rattle.std.specs.Prelude.{◌≡◌, ◌+◌, ◌<◌, ◌≤◌, min, false, T, [], ◌∷◌, length, drop, MatchOption};
+ghost use Rattle.std.specs.Prelude.{◌≡◌, ◌+◌, ◌<◌, ◌≤◌, ◌==◌, min, [], ◌∷◌, length, drop, MatchOption};
+ghost use Rattle.std.specs.List.{position};
 ghost use Rattle.text.specs.Lines.{lines};
-ghost use Rattle.text.specs.Parts.{part};
+
+use crate::iter::Lines;
 
 /// A line of a text, and where the next one begins.
 #[derive(Clone, Copy)]
@@ -10,51 +12,36 @@ pub struct Line<'a> {
     pub next: usize,
 }
 
-/// Where the line that begins at `from` ends.
-fn line_end(text: &[u8], from: usize) -> usize
-    requires { from < length text.now }
-    ensures within { (from ≤ result) × (result ≤ length text.now) }
-    ensures cut { lines (drop from text.now) ≡ part text.now from result ∷ lines (drop (result + 1) text.now) }
+/// The place of the first line feed.
+fn first_feed(text: &[u8]) -> Option<usize>
+    ensures { result ≡ position (λ b. b == 10) text.now }
 {
-    let mut j = from;
-    while j < text.len() && text[j] != b'\n' {
-        j += 1;
-    }
-    j
-}
-
-/// Whether no line begins at `from`.
-fn is_end(text: &[u8], from: usize) -> bool
-    ensures none { T result → lines (drop from text.now) ≡ [] }
-    ensures past { T result → length text.now ≤ from }
-    ensures before { result ≡ false → from < length text.now }
-{
-    from >= text.len()
-}
-
-/// The line that begins at `from`.
-fn line_at<'a>(text: &'a [u8], from: usize) -> Line<'a>
-    requires { from < length text.now }
-    ensures cut { lines (drop from text.now) ≡ result.bytes.now ∷ lines (drop result.next text.now) }
-    ensures next { result.next ≡ min (from + length result.bytes.now + 1) (length text.now) }
-    ensures onward { from < result.next }
-{
-    let to = line_end(text, from);
-    let next = if to < text.len() { to + 1 } else { to };
-    Line {
-        bytes: &text[from..to],
-        next,
-    }
+    text.iter().position(|b| *b == b'\n')
 }
 
 /// The line that begins at the byte `from`, and where the next begins; none where `from` is at the text's end or past it.
+#[tactic(auto, using(crate::proofs::Cuts::cut))]
 pub fn next_line<'a>(text: &'a [u8], from: usize) -> Option<Line<'a>>
     ensures cut { MatchOption result (lines (drop from text.now) ≡ []) (λ l. lines (drop from text.now) ≡ l.bytes.now ∷ lines (drop l.next text.now)) }
     ensures next { MatchOption result (length text.now ≤ from) (λ l. l.next ≡ min (from + length l.bytes.now + 1) (length text.now)) }
     ensures onward { MatchOption result (length text.now ≤ from) (λ l. from < l.next) }
 {
-    if is_end(text, from) {
+    if from >= text.len() {
         return None;
     }
-    Some(line_at(text, from))
+    let rest = &text[from..];
+    let length = first_feed(rest).unwrap_or(rest.len());
+    Some(Line {
+        bytes: &rest[..length],
+        next: (from + length + 1).min(text.len()),
+    })
+}
+
+/// The lines of a text, in order, no more of them than bytes.
+#[tactic(auto, using(crate::proofs::Cuts::few))]
+pub fn lines<'a>(text: &'a [u8]) -> Lines<'a>
+    ensures value { result ≡ lines text.now }
+    ensures few { length result ≤ length text.now }
+{
+    Lines { rest: text }
 }

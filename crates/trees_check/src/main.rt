@@ -22,22 +22,15 @@ fn node(byte: u8) -> RawNode {
 
 /// The table that a text stands for.
 fn table(heap: Global, text: &str) -> Result<Vec<RawNode>, AllocError> {
-    let mut nodes = Vec::new(heap);
-    for byte in text.bytes() {
-        nodes.push(node(byte))?;
-    }
-    Ok(nodes)
+    text.bytes().map(node).collect(heap)
 }
 
 /// The turns that a text stands for.
 fn turns(heap: Global, text: &str) -> Result<Vec<u8>, AllocError> {
-    let mut turns = Vec::new(heap);
-    for byte in text.bytes() {
-        if byte != b'-' {
-            turns.push(byte.wrapping_sub(b'0'))?;
-        }
-    }
-    Ok(turns)
+    text.bytes()
+        .filter(|byte| *byte != b'-')
+        .map(|byte| byte.wrapping_sub(b'0'))
+        .collect(heap)
 }
 
 /// Prints what the turns spell: how many letters, and the letters.

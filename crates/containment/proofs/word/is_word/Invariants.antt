@@ -1,10 +1,10 @@
 use Rattle.std.proofs.Common.{◌≡◌, map, drop}
+use Rattle.expression.specs.Layouts.{expression_of}
 use Rattle.expression.specs.Places.{finishes}
 use Rattle.containment.specs.Reaching.{some_finish}
-use Rattle.containment.specs.Wiring.{whole}
 use Rattle.containment.proofs.word.is_word.Given as goal
 
 abbrev pub invariant-loop-letter : goal.invariant-loop-letter
 invariant-loop-letter g l =
-    finishes (whole l.nodes) (map g.K.Kind.coded l.word) 0
-    ≡ some_finish (whole l.nodes) l.set (drop l.letter-index (map g.K.Kind.coded l.word))
+    finishes (expression_of l.layout) (map g.K.Kind.coded l.word) 0
+    ≡ some_finish (expression_of l.layout) l.set (drop l.letter-index (map g.K.Kind.coded l.word))

@@ -1,7 +1,6 @@
-use Rattle.std.proofs.Common.{◌-◌, vec_items, sym, subst, arith}
+use Rattle.std.proofs.Common.{◌-◌, length, vec_items, ap, arith}
 use Rattle.std.proofs.lemmas.Result.{err_from_is_err_and}
-use Rattle.expression.specs.Making.{Laid}
-use Rattle.expression.proofs.Laying.{lay_more, lay_none, told_on, sound_at}
+use Rattle.expression.proofs.Laying.{lay_none, told_on, sound_at}
 use Rattle.expression.proofs.check.+check_below.Goals as goal
 
 pub returns-in_err-nodes : goal.returns-in_err-nodes
@@ -9,10 +8,10 @@ returns-in_err-nodes t c =
     let p = err_from_is_err_and c.from_residual.result c.from_residual.ensures.1 in
     rw (p.1, p.2) (told_on c.args.table.now c.args.n c.if-n-eq0.false c.requires.within _ c.in_err-nodes.ensures)
 
-pub next-requires : goal.next-requires
-next-requires t c =
+pub invariant_of-front : goal.invariant_of-front
+invariant_of-front t c =
     let s = sound_at c.args.table.now (c.args.n - 1) (vec_items c.in_ok-nodes.nodes) c.in_ok-nodes.ensures in
-    record { laid = subst Laid (sym c.deref.ensures.value) s.fits; short = omega (arith, s.long) }
+    record { short = omega (arith, s.long, ap length c.deref.ensures.value) }
 
 pub returns-in_err-node : goal.returns-in_err-node
 returns-in_err-node t c =
@@ -20,8 +19,3 @@ returns-in_err-node t c =
     rw (p.1, p.2)
     (lay_none c.args.table.now c.args.n c.if-n-eq0.false c.requires.within _ _ _ c.in_ok-nodes.ensures c.deref.ensures.value c.next.ensures
     _ c.in_err-node.ensures.ok_part c.in_err-node.ensures.value)
-
-pub returns : goal.returns
-returns t c =
-    lay_more c.args.table.now c.args.n c.if-n-eq0.false c.requires.within _ _ _ c.in_ok-nodes.ensures c.deref.ensures.value c.next.ensures
-    _ _ c.in_ok-node.ensures.ok_part c.in_ok-push.ensures.items

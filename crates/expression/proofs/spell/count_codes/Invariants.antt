@@ -7,4 +7,4 @@ abbrev pub invariant-loop : goal.invariant-loop
 invariant-loop l = (done : List ℕ) × Passed l.layout l.turns l.walk done
 
 abbrev pub decreases-loop : goal.decreases-loop
-decreases-loop l = left l.layout l.turns l.walk
+decreases-loop l = left l.walk

@@ -1,8 +1,12 @@
-use Rattle.std.proofs.Common.{◌≡◌, ◌*◌, map, drop}
+use Rattle.std.proofs.Common.{◌≡◌}
+use Rattle.std.specs.Slice.Iter.{iter_rest}
+use Rattle.std.specs.Iterator.Adapters.{rev_source, enumerate_source, enumerate_count}
 use Rattle.matching.specs.Holding.{whole}
-use Rattle.matching.specs.Rows.{rows}
-use Rattle.matching.specs.Passes.{lay}
+use Rattle.matching.proofs.Filling.{Filled}
 use Rattle.matching.proofs.fill.fill.Given as goal
 
 abbrev pub invariant-loop-t : goal.invariant-loop-t
-invariant-loop-t g l = l.work ≡ lay (rows (whole l.nodes) (drop l.t (map g.K.Kind.coded l.letters))) (l.t * l.width) l.initial.work
+invariant-loop-t g l = record {
+  from_first : enumerate_count (rev_source l.t-iterator) ≡ 0;
+  filled : Filled g.K.Kind.coded (whole l.layout) l.width l.letters (iter_rest (enumerate_source (rev_source l.t-iterator))) l.fn.work l.work;
+}

@@ -1,45 +1,47 @@
-use Rattle.std.proofs.Common.{◌+◌, ◌*◌, map, arith, rules}
+use Rattle.std.proofs.Common.{◌≡◌, map, refl, ap, ◌∙◌, inl, inr, rules}
 use Rattle.std.proofs.lemmas.List.{length-map}
-use Rattle.matching.specs.Holding.{whole}
-use Rattle.matching.specs.Passes.{usable_at}
-use Rattle.matching.proofs.RowLaws.{base_low}
-use Rattle.matching.proofs.WalkLaws.{on_start, on_room, on_rest, on_step, on_end}
+use Rattle.std.specs.Slice.Iter.{iter_rest}
+use Rattle.std.specs.Iterator.Adapters.{zip_first}
+use Rattle.matching.proofs.WalkLaws.{row_there, on_start, on_step, on_end, both_end, gone_as}
 use Rattle.matching.proofs.walk.walk.Goals as goal
 
-pub loop-t-init : goal.loop-t-init
-loop-t-init g c = on_start (whole c.args.nodes.now) (map g.K.Kind.coded c.args.letters.now) c.args.turns.now c.requires.alive
+pub slice_bounds-chunks-count : goal.slice_bounds-chunks-count
+slice_bounds-chunks-count g c =
+    row_there c.args.layout.now c.row_width-width.result c.row_width-width.ensures.is (map g.K.Kind.coded c.args.letters.now) c.args.work.now c.requires.table
 
-pub overflow_mul-t : goal.overflow_mul-t
-overflow_mul-t g c = let h = base_low (c.loop-t.t + 1) c.row_width-width.result (let s = c.requires.short in omega arith) c.row_width-width.ensures.low in search rules
+pub slice_bounds-chunks-start : goal.slice_bounds-chunks-start
+slice_bounds-chunks-start g c =
+    let there = row_there c.args.layout.now c.row_width-width.result c.row_width-width.ensures.is (map g.K.Kind.coded c.args.letters.now) c.args.work.now c.requires.table in search rules
 
-pub next_step-reached-requires : goal.next_step-reached-requires
-next_step-reached-requires g c = record {
-  sound = c.requires.sound;
-  low = base_low (c.loop-t.t + 1) c.row_width-width.result (let s = c.requires.short in omega arith) c.row_width-width.ensures.low;
-  within = c.loop-t.invariant.within;
-  room =
-      on_room (whole c.args.nodes.now) c.requires.sound.small (map g.K.Kind.coded c.args.letters.now) c.loop-t.t c.loop-t.place c.loop-t.count c.args.turns.now
-      c.loop-t.turns c.loop-t.invariant (let s = c.requires.short in omega arith) c.code_at-code.result (usable_at c.args.work.now ((c.loop-t.t + 1) * c.row_width-width.result));
-}
+pub loop-letter-init : goal.loop-letter-init
+loop-letter-init g c =
+    let all : iter_rest (zip_first c.into_iter-letter-iterator.result) ≡ c.args.letters.now = cc in
+    record {
+      chunked = cc;
+      on =
+          on_start c.args.layout.now c.row_width-width.result c.row_width-width.ensures.is (map g.K.Kind.coded c.args.letters.now) c.args.work.now _ _
+          c.requires.table (cc) (ap (map g.K.Kind.coded) all) c.requires.alive _;
+    }
 
-pub loop-t-preserved : goal.loop-t-preserved
-loop-t-preserved g c =
-    let n = length-map c.args.letters.now g.K.Kind.coded in
-    on_step (whole c.args.nodes.now) c.requires.sound.small (map g.K.Kind.coded c.args.letters.now) c.loop-t.t c.loop-t.place c.loop-t.count c.args.turns.now
-    c.loop-t.turns c.loop-t.invariant (omega arith) c.code_at-code.result c.row_width-width.result c.code_at-code.ensures c.row_width-width.ensures.is c.args.work.now c.requires.table
-    c.next_step-reached.result.count c.next_step-reached.result.place c.next_step-reached.new.turns c.next_step-reached.ensures c.unwrap_or-place.result c.unwrap_or-place.ensures
-
-pub end_step-requires : goal.end_step-requires
-end_step-requires g c = record {
-  sound = c.requires.sound;
-  within = c.loop-t.invariant.within;
-  room =
-      on_rest (whole c.args.nodes.now) c.requires.sound.small (map g.K.Kind.coded c.args.letters.now) c.loop-t.t c.loop-t.place c.loop-t.count c.args.turns.now
-      c.loop-t.turns c.loop-t.invariant (let s = c.requires.short in omega arith);
-}
+pub loop-letter-preserved : goal.loop-letter-preserved
+loop-letter-preserved g c =
+    let st = c.in-Some.ensures.steps in
+    let inv = c.loop-letter.invariant in
+    let e = c.new-entered.ensures in
+    record {
+      chunked = st.1.0 ∙ inv.chunked;
+      on =
+          on_step c.args.layout.now c.row_width-width.result c.row_width-width.ensures.is (map g.K.Kind.coded c.args.letters.now) inv.on (ap (map g.K.Kind.coded) st.0)
+          _ _ st.1.1.0 (rw inv.chunked at st.1.1.1) (gone_as c.loop-letter.place e.layout (e.code ∙ c.code.ensures) e.next c.step.ensures) c.unwrap_or-place.ensures;
+    }
 
 pub returns : goal.returns
 returns g c =
-    let n = length-map c.args.letters.now g.K.Kind.coded in
-    on_end (whole c.args.nodes.now) c.requires.sound.small (map g.K.Kind.coded c.args.letters.now) c.loop-t.t c.loop-t.place c.loop-t.count c.args.turns.now
-    c.loop-t.turns c.loop-t.invariant (omega arith) c.end_step.result c.end_step.new.turns c.end_step.ensures
+    let w = map g.K.Kind.coded c.args.letters.now in
+    let on = c.loop-letter.invariant.on in
+    let e = c.nowhere.ensures in
+    let ended =
+    both_end c.args.layout.now c.row_width-width.result c.row_width-width.ensures.is w on
+    (elim c.in-None.ensures.steps [ inl h ↦ inl (length-map (iter_rest (zip_first c.loop-letter.letter-iterator)) g.K.Kind.coded ∙ h.1.0) | inr h ↦ inr h.1.1.0 ]) in
+    on_end c.args.layout.now c.row_width-width.result c.row_width-width.ensures.is w on ended (rw length-map c.requires.short) (gone_as c.loop-letter.place e.layout e.code e.next c.step-2.ensures)
+    refl _ (λ h. search rules)

@@ -1,9 +1,6 @@
-use Rattle.std.proofs.Common.{sym, ◌∙◌, arith}
+use Rattle.std.proofs.Common.{arith}
 use Rattle.expression.proofs.Passing.{spelt_all}
 use Rattle.expression.proofs.layout.Layout.spell.Goals as goal
 
-pub returns : goal.returns
-returns g c =
-    let x = spelt_all _ c.in_ok-count.count c.args.letters.now c.put_letters-2.new.letters
-    (sym c.in_ok-count.ensures.ok_part ∙ c.put_letters.ensures.count) (omega arith) c.put_letters-2.ensures.buffer in
-    record { answer = x.0; buffer = x.1 }
+pub returns-clause-buffer : goal.returns-clause-buffer
+returns-clause-buffer g c = spelt_all _ _ _ _ _ c.args.letters.now c.put_letters-2.new.letters c.in_ok-count.ensures (omega arith) c.in_ok-put_letters.ensures

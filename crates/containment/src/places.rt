@@ -1,0 +1,53 @@
+//! The places of a layout.
+ghost use Rattle.std.specs.Prelude.{◌≡◌};
+ghost use Rattle.expression.specs.Layouts.{expression_of, nodes_of};
+ghost use Rattle.containment.specs.Passes.{AllCoded, ComesAfter};
+ghost use Rattle.containment.specs.Reaching.{Stepped};
+
+use crate::after::After;
+use crate::part::Part;
+use crate::passes;
+use expression::layout::Layout;
+use std::array;
+
+/// The places of a layout, with the code of each.
+#[derive(Drop)]
+pub(crate) struct Places<'a> {
+    pub(crate) layout: &'a Layout,
+    pub(crate) codes: [u16; 129],
+    ghost coded: { AllCoded (nodes_of layout.now) codes },
+}
+
+impl<'a> Places<'a> {
+    /// The places of a layout.
+    pub(crate) fn new(layout: &'a Layout) -> Places<'a>
+        ensures { result.layout.now ≡ layout.now }
+    {
+        let mut codes = [0; 129];
+        Part::whole(layout).put_codes(&mut codes);
+        Places { layout, codes }
+    }
+
+    /// What comes after the places of a set.
+    pub(crate) fn after(&self, set: &[bool; 129]) -> After
+        ensures { ComesAfter (nodes_of self.now.layout.now) set.now result }
+    {
+        let closing = passes::closing(self.layout, set);
+        let whole = Part::whole(self.layout);
+        let start = set[0];
+        let admits = whole.read().admits;
+        let closes = closing[usize::from(whole.node)];
+        let ends = (start && admits) || closes;
+        let mut follow = [false; 129];
+        whole.spread(&closing, start, &mut follow);
+        After { ends, follow }
+    }
+
+    /// The places that have the code and follow one of the set.
+    pub(crate) fn step(&self, set: &[bool; 129], code: u16) -> [bool; 129]
+        ensures { Stepped (expression_of self.now.layout.now) set.now code 129 result }
+    {
+        let after = self.after(set);
+        array::from_fn(|place| self.codes[place] == code && after.follow[place])
+    }
+}

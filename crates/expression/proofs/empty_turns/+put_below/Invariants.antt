@@ -1,4 +1,0 @@
-use Rattle.expression.proofs.empty_turns.+put_below.Given as goal
-
-abbrev pub decreases-put_below : goal.decreases-put_below
-decreases-put_below l = l.i
