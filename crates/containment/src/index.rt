@@ -6,8 +6,16 @@ ghost use Rattle.containment.specs.Indexing.{Below, Indexed, Listed, Low, Marked
 ghost use Rattle.containment.specs.Rows.{row_at};
 ghost use Rattle.containment.specs.Serving.{all_step, served_by};
 
+use crate::places::Codes;
+use crate::sets::{PLACES, Set};
 use arrayvec::ArrayVec;
 use std::array;
+
+/// The most rows of a list, each of which has two numbers or more.
+const ROWS: usize = 8192;
+
+/// The starts of rows.
+type Starts = ArrayVec<u16, ROWS>;
 
 /// A row: a place of the earlier layout, and a set of places of the later one.
 #[derive(Clone, Copy)]
@@ -16,16 +24,16 @@ pub(crate) struct Row<'a> {
     pub(crate) set: &'a [u16],
 }
 
-/// The rows of a list of numbers.
+/// The rows of a list of numbers. The three arrays take some 34 KB on the stack in all.
 #[derive(Drop)]
 pub(crate) struct Index<'a> {
     pub(crate) numbers: &'a [u16],
     /// The index at which each row begins.
-    starts: ArrayVec<u16, 8192>,
+    starts: Starts,
     /// The same, sorted by the places of the rows.
-    sorted: ArrayVec<u16, 8192>,
+    sorted: Starts,
     /// How many rows have a lower place, for each place.
-    lower: [usize; 130],
+    lower: [usize; PLACES + 1],
     ghost indexed: { ∥ Indexed numbers.now starts.items sorted.items lower ∥₁ },
 }
 
@@ -33,15 +41,16 @@ pub(crate) struct Index<'a> {
 fn place_at(numbers: &[u16], start: u16) -> u16
     ensures { result ≡ slice_index numbers.now start }
 {
+    // Kept: total, with 0 for no place, since a sort may call its key on any start.
     numbers.get(usize::from(start)).copied().unwrap_or(0)
 }
 
 /// The index at which each row begins.
-fn starts(numbers: &[u16]) -> ArrayVec<u16, 8192>
+fn starts(numbers: &[u16]) -> Starts
     requires { Listed (rows_of numbers.now) numbers.now }
     ensures { Marked numbers.now result.items }
 {
-    let mut starts = ArrayVec::new();
+    let mut starts = Starts::new();
     let mut start = 0;
     // Kept: the index itself is noted, and goes on by a row's size; a slice peeled row by row would need it beside.
     while start < numbers.len() {
@@ -52,15 +61,12 @@ fn starts(numbers: &[u16]) -> ArrayVec<u16, 8192>
 }
 
 /// The starts, sorted by the places of the rows.
-fn sorted(numbers: &[u16], starts: &[u16]) -> ArrayVec<u16, 8192>
-    requires { length starts.now ≤ 8192 }
+fn sorted(numbers: &[u16], starts: &[u16]) -> Starts
+    requires { length starts.now ≤ ROWS }
     ensures permuted { IsPermutation starts.now result.items }
     ensures rising { IsNonDecreasingBy (slice_index numbers.now) result.items }
 {
-    let mut sorted = ArrayVec::new();
-    for start in starts {
-        sorted.push(*start);
-    }
+    let mut sorted = Starts::try_from(starts).unwrap();
     sorted.sort_unstable_by_key(|start| place_at(numbers, *start));
     sorted
 }
@@ -74,7 +80,8 @@ fn rows_below(numbers: &[u16], sorted: &[u16], place: usize) -> usize
 }
 
 /// Has each place the code, and is each in the table of followers?
-fn all_step(places: &[u16], follow: &[bool; 129], codes: &[u16; 129], code: u16) -> bool
+// Kept: three parameters, since a struct of them would be made by one caller and at once taken apart here.
+fn all_step(places: &[u16], follow: &Set, codes: &Codes, code: u16) -> bool
     requires { Low places.now }
     ensures { result ≡ all_step follow.now codes.now code places.now }
 {
@@ -136,7 +143,7 @@ impl<'a> Index<'a> {
 
     /// The starts of the rows for a place.
     fn rows_for(&self, place: usize) -> &[u16]
-        requires { place < 129 }
+        requires { place < PLACES }
         ensures rows { All (RowFrom self.now.numbers.now) result.now }
         ensures sorted { result.now ≡ slice_range self.now.sorted.items (slice_index self.now.lower place) (slice_index self.now.lower (place + 1)) }
     {
@@ -144,14 +151,8 @@ impl<'a> Index<'a> {
     }
 
     /// Is there a row for `f` each of whose places has the code and is in the table of followers?
-    pub(crate) fn serves(
-        &self,
-        f: usize,
-        follow: &[bool; 129],
-        codes: &[u16; 129],
-        code: u16,
-    ) -> bool
-        requires { f < 129 }
+    pub(crate) fn serves(&self, f: usize, follow: &Set, codes: &Codes, code: u16) -> bool
+        requires { f < PLACES }
         ensures { result ≡ served_by (rows_of self.now.numbers.now) follow.now codes.now code f }
     {
         self.rows_for(f)

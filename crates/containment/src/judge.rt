@@ -13,8 +13,9 @@ ghost use Rattle.containment.specs.Verdicts.{Admits, Judged};
 use crate::after::After;
 use crate::fault::RowsFault;
 use crate::index::Index;
+use crate::list::Counts;
 use crate::scene::Scene;
-use crate::{list, sets};
+use crate::sets;
 use expression::layout::Layout;
 
 impl Scene<'_> {
@@ -32,6 +33,7 @@ impl Scene<'_> {
             (range_with_len 1 (places_of self.now.earlier.layout.now)) }
     {
         let codes = &self.earlier.codes;
+        // Kept: not 1..=n, since the library has no lemma on a search of such a range.
         (1..usize::from(self.earlier.layout.places()) + 1).find(|f| {
             here.follow[*f]
                 && !self
@@ -46,8 +48,8 @@ impl Scene<'_> {
         ensures { result ≡ verdict (row_fault (earlier_of self.now) (later_of self.now) (rows_in self.now) n (row_at (rows_in self.now) n)) }
     {
         let row = self.rows.row(n);
-        let here = self.earlier.after(&sets::marks(&[row.place]));
-        let there = self.later.after(&sets::marks(row.set));
+        let here = self.earlier.after(&sets::of(&[row.place]));
+        let there = self.later.after(&sets::of(row.set));
         if here.ends && !there.ends {
             return Err(RowsFault::End(n));
         }
@@ -77,7 +79,7 @@ pub fn judge_rows(earlier: &Layout, later: &Layout, rows: &[u16]) -> Result<(), 
     ensures accepts { (result ≡ Ok tt) ↔ Admits (expression_of earlier.now) (expression_of later.now) rows.now }
     ensures sound { result ≡ Ok tt → Contained (expression_of earlier.now) (expression_of later.now) }
 {
-    list::check(earlier.places(), later.places(), rows)?;
+    Counts::of(earlier, later).check(rows)?;
     let rows = Index::new(rows);
     Scene::new(earlier, later, &rows).check_rules()
 }

@@ -22,7 +22,7 @@ impl<'a> Part<'a> {
     {
         Part {
             layout,
-            node: (layout.len() - 1) as u8,
+            node: layout.root(),
         }
     }
 
@@ -38,6 +38,7 @@ impl<'a> Part<'a> {
         }
     }
 
+    // Kept: each crate reads a node under a contract of its own, since no public function may ask that there is such a node.
     /// The node.
     pub(crate) fn read(self) -> Node
         ensures { result ≡ node_of (nodes_of self.entry.layout.now) self.entry.node }

@@ -5,13 +5,22 @@ ghost use Rattle.expression.specs.Nodes.{node as node_of};
 ghost use Rattle.containment.specs.Passes.{Closing, Coded, Spread, closes_by};
 
 use crate::part::Part;
+use crate::places::Codes;
+use crate::sets::Set;
 use expression::layout::Layout;
 use expression::node::Shape;
 
+/// As many as a byte can number; a layout has fewer nodes.
+const NODES: usize = 256;
+
+/// A set of nodes: of each node, is it in the set?
+pub(crate) type NodeSet = [bool; NODES];
+
 #[tactic(auto, using(crate::proofs::Wiring::wired))]
 impl Part<'_> {
+    // Kept: reading has such a pass of its own; one for both would take what a letter and a pair say as closures, which is no plainer.
     /// May a word of the part close with a place of the set? The answers of its children stand in `closing`.
-    fn closes(self, set: &[bool; 129], closing: &[bool; 256]) -> bool
+    fn closes(self, set: &Set, closing: &NodeSet) -> bool
         ensures { result ≡ closes_by (nodes_of self.entry.layout.now) set.now closing.now (node_of (nodes_of self.entry.layout.now) self.entry.node).letters
             (node_of (nodes_of self.entry.layout.now) self.entry.node).shape }
     {
@@ -29,7 +38,7 @@ impl Part<'_> {
     }
 
     /// Adds the places of the part that come next; `reached` says whether the first ones of its words do.
-    pub(crate) fn spread(self, closing: &[bool; 256], reached: bool, out: &mut [bool; 129])
+    pub(crate) fn spread(self, closing: &NodeSet, reached: bool, out: &mut Set)
         ensures { (set : List Bool) → Closing (nodes_of self.entry.layout.now) set closing.now (length (nodes_of self.entry.layout.now))
             → Spread (nodes_of self.entry.layout.now) set self.entry.node reached out.old out.new }
     {
@@ -59,7 +68,7 @@ impl Part<'_> {
     }
 
     /// Puts the codes of the part's places into a table.
-    pub(crate) fn put_codes(self, out: &mut [u16; 129])
+    pub(crate) fn put_codes(self, out: &mut Codes)
         ensures { Coded (nodes_of self.entry.layout.now) self.entry.node out.old out.new }
     {
         let here = self.read();
@@ -76,11 +85,11 @@ impl Part<'_> {
 }
 
 /// Which nodes have a word that closes with a place of the set?
-pub(crate) fn closing(layout: &Layout, set: &[bool; 129]) -> [bool; 256]
+pub(crate) fn closing(layout: &Layout, set: &Set) -> NodeSet
     ensures { Closing (nodes_of layout.now) set.now result (length (nodes_of layout.now)) }
 {
-    let mut closing = [false; 256];
-    // Kept: a part is told by its node's number, and its children's answers are found by theirs.
+    let mut closing = [false; NODES];
+    // Kept: no enumerate, since a part is made from a number, and answers are looked up by number while they are noted.
     for node in 0..layout.len() as u8 {
         let closes = Part { layout, node }.closes(set, &closing);
         closing[usize::from(node)] = closes;

@@ -7,14 +7,18 @@ ghost use Rattle.containment.specs.Reaching.{Stepped};
 use crate::after::After;
 use crate::part::Part;
 use crate::passes;
+use crate::sets::{PLACES, Set};
 use expression::layout::Layout;
 use std::array;
+
+/// The code of each place.
+pub(crate) type Codes = [u16; PLACES];
 
 /// The places of a layout, with the code of each.
 #[derive(Drop)]
 pub(crate) struct Places<'a> {
     pub(crate) layout: &'a Layout,
-    pub(crate) codes: [u16; 129],
+    pub(crate) codes: Codes,
     ghost coded: { AllCoded (nodes_of layout.now) codes },
 }
 
@@ -23,13 +27,13 @@ impl<'a> Places<'a> {
     pub(crate) fn new(layout: &'a Layout) -> Places<'a>
         ensures { result.layout.now ≡ layout.now }
     {
-        let mut codes = [0; 129];
+        let mut codes = [0; PLACES];
         Part::whole(layout).put_codes(&mut codes);
         Places { layout, codes }
     }
 
     /// What comes after the places of a set.
-    pub(crate) fn after(&self, set: &[bool; 129]) -> After
+    pub(crate) fn after(&self, set: &Set) -> After
         ensures { ComesAfter (nodes_of self.now.layout.now) set.now result }
     {
         let closing = passes::closing(self.layout, set);
@@ -38,14 +42,14 @@ impl<'a> Places<'a> {
         let admits = whole.read().admits;
         let closes = closing[usize::from(whole.node)];
         let ends = (start && admits) || closes;
-        let mut follow = [false; 129];
+        let mut follow = [false; PLACES];
         whole.spread(&closing, start, &mut follow);
         After { ends, follow }
     }
 
     /// The places that have the code and follow one of the set.
-    pub(crate) fn step(&self, set: &[bool; 129], code: u16) -> [bool; 129]
-        ensures { Stepped (expression_of self.now.layout.now) set.now code 129 result }
+    pub(crate) fn step(&self, set: &Set, code: u16) -> Set
+        ensures { Stepped (expression_of self.now.layout.now) set.now code PLACES result }
     {
         let after = self.after(set);
         array::from_fn(|place| self.codes[place] == code && after.follow[place])

@@ -10,16 +10,11 @@ impl From<RowsFault> for Figures {
 
     /// The number of the refusal and its two values.
     fn from(fault: RowsFault) -> Figures {
-        let (number, first, second) = match fault {
-            RowsFault::IllFormed(index) => (31, index, 0),
-            RowsFault::Start => (32, 0, 0),
-            RowsFault::End(row) => (33, row, 0),
-            RowsFault::Follower(row, f) => (34, row, f),
-        };
-        Figures {
-            number,
-            first,
-            second,
+        match fault {
+            RowsFault::IllFormed(index) => Figures::new(31, index, 0),
+            RowsFault::Start => Figures::new(32, 0, 0),
+            RowsFault::End(row) => Figures::new(33, row, 0),
+            RowsFault::Follower(row, f) => Figures::new(34, row, f),
         }
     }
 }
@@ -29,14 +24,9 @@ impl From<WordFault> for Figures {
 
     /// The number of the refusal and its two values, which are 0.
     fn from(fault: WordFault) -> Figures {
-        let number = match fault {
-            WordFault::NotEarlier => 36,
-            WordFault::AlsoLater => 37,
-        };
-        Figures {
-            number,
-            first: 0,
-            second: 0,
+        match fault {
+            WordFault::NotEarlier => Figures::new(36, 0, 0),
+            WordFault::AlsoLater => Figures::new(37, 0, 0),
         }
     }
 }

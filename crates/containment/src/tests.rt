@@ -108,10 +108,7 @@ fn order(rt: HostRuntime) -> Result<(), Fail> {
     assert_eq!(rt; rows(heap, &star, &star, &[0, 2, 1, 1]), Some((31, 3, 0)));
     assert_eq!(rt; rows(heap, &star, &star, &[0]), Some((31, 1, 0)));
     assert_eq!(rt; rows(heap, &star, &star, &[0, 2, 0]), Some((31, 3, 0)));
-    let mut many = Vec::new(heap);
-    for _ in 0..16384 {
-        many.push(0)?;
-    }
+    let mut many = vec![in heap; 0u16; 16384]?;
     assert_eq!(rt; rows(heap, &star, &star, &many), Some((32, 0, 0)));
     many.push(9)?;
     assert_eq!(rt; rows(heap, &star, &star, &many), Some((31, 16384, 0)));

@@ -15,7 +15,7 @@ fn is_word<K: Kind>(layout: &Layout, word: &[K::Letter]) -> bool
     ensures { TellsWord (expression_of layout.now) (map K.Kind.coded word.now) result }
 {
     let places = Places::new(layout);
-    let mut set = sets::marks(&[0]);
+    let mut set = sets::of(&[0]);
     for letter in word {
         set = places.step(&set, K::code(*letter));
     }

@@ -1,6 +1,6 @@
 -- The check of a table, node by node: the nodes that it lays, or the first that breaks.
-use Rattle.std.proofs.Common.{◌≡◌, ℕ, zero, suc, ◌-◌, ◌<◌, ◌≤◌, Bool, true, false, cond, eqb, ltb, ◌⊎◌, List, [], ◌∷◌, ◌++◌, length, get_or, take, Some, None, Err, Option, Result, sym, refl, ap, ◌∙◌, subst, inl, inr, arith, ltb-false, eqb-true, Ok}
-use Rattle.std.proofs.lemmas.List.{length_push, get_or_append_left, get_or_default, get_or_push, take-append-le, take_at}
+use Rattle.std.proofs.Common.{◌≡◌, ℕ, zero, suc, ◌-◌, ◌<◌, ◌≤◌, Bool, true, false, cond, eqb, ltb, ◌⊎◌, List, [], ◌∷◌, ◌++◌, length, take, drop, Some, None, Err, Option, Result, sym, refl, ap, ◌∙◌, subst, inl, inr, arith, ltb-false, eqb-true, Ok}
+use Rattle.std.proofs.lemmas.List.{length_push, get_or_append_left, get_or_push, length-take-le, take-append-drop, take-append-le, take_at}
 use Rattle.std.specs.Option.{ok_or, option_map}
 use Rattle.expression.specs.declared.fault.TableFault.{TableFault}
 use Rattle.expression.specs.declared.fault.TableFault.TheVariants as fault
@@ -161,25 +161,44 @@ module _ (ts : List RawNode) where
   pub stuck_at : (n i : ℕ) → lay ts n ≡ Err i → Stuck ts n i
   stuck_at n i e = subst (Tells ts n) e (lay_tells n)
 
--- The last step of the check of the nodes below n.
-module _ (ts : List RawNode) (n : ℕ) (some : n ≡ 0 → ⊥) (within : n ≤ length ts) where
-  lay_last : lay ts n ≡ lay_on (n - 1) (get_or ts (n - 1) (Letter 0)) (lay ts (n - 1))
-  lay_last =
-      let l : n - 1 < length ts = omega arith in
-      let s : n ≡ suc (n - 1) = omega arith in
-      ap (lay ts) s ∙ ap (λ r. lay_on (n - 1) r (lay ts (n - 1))) (get_or_default ts (n - 1) (Unknown 0) (Letter 0) l)
+-- The check of the first nodes reads no others.
+lay_first : (bs cs : List RawNode) (i : ℕ) → i ≤ length bs → lay (bs ++ cs) i ≡ lay bs i
+lay_first bs cs zero h = refl
+lay_first bs cs (suc i) h =
+    ap (λ r. lay_on i r (lay (bs ++ cs) i)) (get_or_append_left bs cs (Unknown 0) i (omega arith))
+    ∙ ap (lay_on i (raw bs i)) (lay_first bs cs i (omega arith))
 
-  module _ (ns read : List Node) (o : Option Node) (e : lay ts (n - 1) ≡ Ok ns) (same : read ≡ ns) (next : o ≡ next_node read (get_or ts (n - 1) (Letter 0))) where
-    lay_put : lay ts n ≡ put ns (n - 1) o
-    lay_put = lay_last ∙ rw e (ap (put ns (n - 1)) (sym (rw same at next)))
+pub lay_taken : (ts : List RawNode) (m : ℕ) → m ≤ length ts → lay (take m ts) (length (take m ts)) ≡ lay ts m
+lay_taken ts m h =
+    let l : length (take m ts) ≡ m = length-take-le m ts h in
+    ap (lay (take m ts)) l ∙ sym (lay_first (take m ts) (drop m ts) m (omega arith)) ∙ ap (λ xs. lay xs m) (take-append-drop m ts)
 
-    pub lay_none : (f : TableFault) → o ≡ None → Err f ≡ ok_or o (fault.Breaks (n - 1)) → Told (lay ts n) f
+pub lay_push : (bs : List RawNode) (x : RawNode) → lay (bs ++ x ∷ []) (length (bs ++ x ∷ [])) ≡ lay_on (length bs) x (lay bs (length bs))
+lay_push bs x =
+    let z : length (bs ++ x ∷ []) ≡ suc (length bs) = omega (arith, length_push bs x) in
+    ap (lay (bs ++ x ∷ [])) z
+    ∙ ap (λ r. lay_on (length bs) r (lay (bs ++ x ∷ []) (length bs))) (get_or_push bs x (Unknown 0) (length bs) refl)
+    ∙ ap (lay_on (length bs) x) (lay_first bs (x ∷ []) (length bs) (omega arith))
+
+-- The last step of the check of a table.
+module _ (ts bs : List RawNode) (x : RawNode) (split : ts ≡ bs ++ x ∷ []) where
+  lay_last : lay ts (length ts) ≡ lay_on (length bs) x (lay bs (length bs))
+  lay_last = ap (λ xs. lay xs (length xs)) split ∙ lay_push bs x
+
+  module _ (ns read : List Node) (o : Option Node) (e : lay bs (length bs) ≡ Ok ns) (same : read ≡ ns) (next : o ≡ next_node read x) where
+    lay_put : lay ts (length ts) ≡ put ns (length bs) o
+    lay_put = lay_last ∙ rw e (ap (put ns (length bs)) (sym (rw same at next)))
+
+    pub lay_some : (n : Node) → o ≡ Some n → lay ts (length ts) ≡ Ok (ns ++ n ∷ [])
+    lay_some n p = lay_put ∙ ap (put ns (length bs)) p
+
+    pub lay_none : (f : TableFault) → o ≡ None → Err f ≡ ok_or o (fault.Breaks (length bs)) → Told (lay ts (length ts)) f
     lay_none f p q =
-        let r : ◌≡◌ {A = Result Node TableFault} (Err f) (Err (fault.Breaks (n - 1))) = q ∙ ap (λ x. ok_or x (fault.Breaks (n - 1))) p in
-        let z : fault.Breaks (n - 1) ≡ f = cc in
-        subst (Told (lay ts n)) z (lay_put ∙ rw p)
+        let r : ◌≡◌ {A = Result Node TableFault} (Err f) (Err (fault.Breaks (length bs))) = q ∙ ap (λ y. ok_or y (fault.Breaks (length bs))) p in
+        let z : fault.Breaks (length bs) ≡ f = cc in
+        subst (Told (lay ts (length ts))) z (lay_put ∙ rw p)
 
-  pub told_on : (f : TableFault) → Told (lay ts (n - 1)) f → Told (lay ts n) f
+  pub told_on : (f : TableFault) → Told (lay bs (length bs)) f → Told (lay ts (length ts)) f
   told_on fault.Empty t = t
   told_on fault.TooLong t = t
   told_on (fault.Breaks i) t = lay_last ∙ rw t

@@ -12,18 +12,17 @@ use crate::raw::RawNode;
 use alphabet::kind::Kind;
 use std::alloc::Global;
 
-/// The checked forms of the nodes below number `n`: first of those before the last of them, then its own.
-fn check_below(heap: Global, table: &[RawNode], n: usize) -> Result<Vec<Node>, TableFault>
-    requires within { n ≤ length table.now }
-    requires short { n ≤ 255 }
-    ensures { Checked table.now n result }
+/// The checked forms of the nodes of a table: first of those before the last of them, then its own.
+fn check_nodes(heap: Global, table: &[RawNode]) -> Result<Vec<Node>, TableFault>
+    requires { length table.now ≤ 255 }
+    ensures { Checked table.now (length table.now) result }
 {
-    if n == 0 {
+    let Some((last, before)) = table.split_last() else {
         return Ok(Vec::new(heap));
-    }
-    let mut nodes = check_below(heap, table, n - 1)?;
+    };
+    let mut nodes = check_nodes(heap, before)?;
     let front = Front { nodes: &nodes };
-    let node = front.next(table[n - 1]).ok_or(TableFault::Breaks(n - 1))?;
+    let node = front.next(*last).ok_or(TableFault::Breaks(before.len()))?;
     nodes.push(node)?;
     Ok(nodes)
 }
@@ -40,7 +39,7 @@ fn judge(heap: Global, table: &[RawNode], mute: Option<usize>) -> Result<Layout,
     if count > 255 {
         return Err(TableFault::TooLong);
     }
-    let nodes = check_below(heap, table, mute.unwrap_or(count))?;
+    let nodes = check_nodes(heap, &table[..mute.unwrap_or(count)])?;
     if let Some(i) = mute {
         return Err(TableFault::Breaks(i));
     }

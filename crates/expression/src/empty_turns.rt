@@ -10,6 +10,7 @@ use crate::node::Shape;
 
 impl Layout {
     /// Writes the turns of the first tree without letters of node `i` from `at` on, as far as there is room, and counts them.
+    // Kept: a public contract tells of a place in a whole buffer, so the place goes along beside it.
     fn put_below(&self, i: u8, turns: &mut [u8], at: usize) -> u8
         requires { Skips self.now i }
         ensures { Put (unwrap_or (empty_turns_at self.now i) []) at result turns.old turns.new }
@@ -42,6 +43,7 @@ impl Layout {
         ensures count { result ≡ option_map length (empty_turns_at self.now node) }
         ensures buffer { turns.new ≡ written (unwrap_or (empty_turns_at self.now node) []) at turns.old }
     {
+        // Kept: `then` tells nothing of the turns where the part has no such tree.
         if self.nodes.get(usize::from(node))?.admits {
             Some(self.put_below(node, turns, at))
         } else {

@@ -3,7 +3,7 @@ ghost use Rattle.std.specs.Prelude.{◌≡◌, ◌<◌, length};
 ghost use Rattle.expression.specs.Making.{last_one, last_two, leaf, letters_of, next_node, over};
 ghost use Rattle.expression.specs.Nodes.{admits_at, admits_by};
 
-use crate::node::{Node, Shape};
+use crate::node::{Node, Shape, count_letters};
 use crate::raw::RawNode;
 
 /// The nodes before one that is to be checked.
@@ -18,7 +18,7 @@ impl Front<'_> {
     fn letters(&self) -> u8
         ensures { result ≡ letters_of self.now.nodes.now }
     {
-        self.nodes.last().map_or(0, |node| node.letters)
+        count_letters(self.nodes)
     }
 
     /// Is the empty word a word of the part of the node with number `i`, if there is such a node?
@@ -60,6 +60,7 @@ impl Front<'_> {
     {
         Node {
             shape,
+            // Kept: with `map_or` this is total, so that nothing must require that the child is there.
             start: self
                 .nodes
                 .get(usize::from(first))
@@ -93,6 +94,7 @@ impl Front<'_> {
         match raw {
             RawNode::Letter(code) => {
                 let before = self.letters();
+                // Kept: a closure in `then` tells nothing of what `leaf` answers unless it has a clause of its own, which is no plainer.
                 if before < 128 {
                     Some(self.leaf(Shape::Letter(code), before + 1))
                 } else {

@@ -1,4 +1,6 @@
 //! The nodes of a layout: checked, with what later steps read off them.
+ghost use Rattle.std.specs.Prelude.{◌≡◌};
+ghost use Rattle.expression.specs.Making.{letters_of};
 
 /// What a node's part is made of. A child is told by its number.
 #[derive(Clone, Copy, PartialEq, Eq, Debug)]
@@ -25,4 +27,11 @@ pub struct Node {
     pub letters: u8,
     /// Is the empty word a word of the node's part?
     pub admits: bool,
+}
+
+/// The number of letter nodes up to the last of these nodes.
+pub(crate) fn count_letters(nodes: &[Node]) -> u8
+    ensures { result ≡ letters_of nodes.now }
+{
+    nodes.last().map_or(0, |last| last.letters)
 }

@@ -1,10 +1,10 @@
 //! What is read of a layout.
 ghost use Rattle.std.specs.Prelude.{◌≡◌, ◌<◌, length};
 ghost use Rattle.expression.specs.Layouts.{nodes_of, places_of};
-ghost use Rattle.expression.specs.Nodes.{node};
+ghost use Rattle.expression.specs.Nodes.{last, node};
 
 use crate::layout::Layout;
-use crate::node::Node;
+use crate::node::{Node, count_letters};
 
 impl Layout {
     /// The nodes, children first.
@@ -14,6 +14,7 @@ impl Layout {
         self.nodes.as_slice()
     }
 
+    // Kept: each crate reads a node under a contract of its own, since no public function may ask that there is such a node.
     /// The node with number `i`.
     pub(crate) fn node(&self, i: u8) -> Node
         requires { i < length (nodes_of self.now) }
@@ -29,10 +30,17 @@ impl Layout {
         self.nodes.len()
     }
 
+    /// The number of the last node, which ends the whole layout.
+    pub fn root(&self) -> u8
+        ensures { result ≡ last (nodes_of self.now) }
+    {
+        (self.nodes.len() - 1) as u8
+    }
+
     /// The number of places, which are the letter nodes.
     pub fn places(&self) -> u8
         ensures { result ≡ places_of self.now }
     {
-        self.nodes.last().map_or(0, |last| last.letters)
+        count_letters(&self.nodes)
     }
 }

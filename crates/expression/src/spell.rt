@@ -16,6 +16,7 @@ fn count_codes(layout: &Layout, turns: &[u8]) -> Result<u128, NoTree>
     ensures { Counted (codes (expression_of layout.now) turns.now) (length turns.now) result }
 {
     let mut walk = Walk::new(layout, turns);
+    // Kept: the walk may fail at each step, so it is no iterator whose codes `count` could count.
     while walk.next_code()?.is_some() {}
     Ok(walk.letters)
 }
@@ -32,8 +33,10 @@ fn put_letters<K: Kind>(
     let mut count = 0;
     while let Some(code) = walk.next_code()? {
         if let Some(letter) = K::letter(code) {
+            // Kept: no buffer is as long as `usize::MAX`, so a letter past that is only counted.
             let at = usize::try_from(count).unwrap_or(usize::MAX);
             put(letters, at, letter);
+            // Kept: not each code is a letter of the kind, and the walk may fail, so no iterator counts the letters.
             count += 1;
         }
     }
@@ -58,6 +61,7 @@ impl Layout {
         ensures answer { result ≡ spelt (word K.Kind.lettered (expression_of self.now) turns.now) (length letters.old) }
         ensures buffer { letters.new ≡ spelt_into (word K.Kind.lettered (expression_of self.now) turns.now) letters.old }
     {
+        // With no room the letters are only counted.
         let count = put_letters::<K>(self, turns, &mut [])?;
         if count > letters.len() as u128 {
             return Err(SpellFault::TooShort(count));

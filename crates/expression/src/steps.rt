@@ -32,9 +32,8 @@ impl<'a> Walk<'a> {
     pub(crate) fn new(layout: &'a Layout, turns: &'a [u8]) -> Self
         ensures { Begun layout.now turns.now result }
     {
-        let root = layout.nodes.len() - 1;
         let mut pending = ArrayVec::new();
-        pending.push(Pending::at_once(root as u8));
+        pending.push(Pending::at_once(layout.root()));
         Walk {
             layout,
             turns,

@@ -42,10 +42,7 @@ fn tables(rt: HostRuntime) {
 fn limits(rt: HostRuntime) -> Result<(), Fail> {
     let heap = rt.alloc();
     let a = RawNode::Letter(97);
-    let mut letters = Vec::new(heap);
-    for _ in 0..128 {
-        letters.push(a)?;
-    }
+    let mut letters = vec![in heap; a; 128]?;
     assert_eq!(rt; fault(heap, &letters), Some(TableFault::Unfinished(128)));
     letters.push(a)?;
     assert_eq!(rt; fault(heap, &letters), Some(TableFault::Breaks(128)));

@@ -1,5 +1,5 @@
--- What one line says. Bytes count from 0 here, and past the line's end a byte reads as 0.
-use Rattle.std.specs.Prelude.{ℕ, ◌+◌, ◌-◌, ◌*◌, ◌%◌, Bool, if◌then◌else◌, not, ◌&&◌, ◌||◌, List, length, Some, None, Ok, Err, Option, Result, ◌==◌, nat_le, nat_lt, slice_index}
+-- What one line says. Bytes count from 0 here, in the rest of a line from its first, and past the end a byte reads as 0.
+use Rattle.std.specs.Prelude.{ℕ, ◌+◌, ◌-◌, ◌*◌, ◌%◌, Bool, if◌then◌else◌, not, ◌&&◌, ◌||◌, List, length, drop, Some, None, Ok, Err, Option, Result, ◌==◌, nat_le, nat_lt, slice_index}
 use Rattle.std.specs.Char.{is_ascii_digit}
 use Rattle.std.specs.Option.{ok_or}
 use Rattle.std.proofs.Common.{lit<, mod-lt}
@@ -25,7 +25,7 @@ two a b = 10 * (a - 48) + (b - 48)
 abbrev pub record_number : List ℕ → ℕ
 record_number l = 100 * (slice_index l 0 - 48) + 10 * (slice_index l 1 - 48) + (slice_index l 2 - 48)
 
--- The line ends before byte i, or has a bar there.
+-- A line, or the rest of one, ends before byte i, or has a bar there.
 abbrev pub closes : List ℕ → ℕ → Bool
 closes l i = nat_le (length l) i || slice_index l i == 124
 
@@ -34,15 +34,15 @@ abbrev pub time_class : ℕ → ℕ → Option Stamp
 time_class h m =
     if m == 0 && (h == 0 || h == 24) then Some Midnight else (if nat_lt h 24 && nat_lt m 60 then Some WithinDay else None)
 
--- hh:mm stands at byte 4, and the line closes after it.
+-- hh:mm begins the rest r of a line, and the line closes after it.
 abbrev pub timed : List ℕ → Bool
-timed l =
-    is_ascii_digit (slice_index l 4) && (is_ascii_digit (slice_index l 5) && (slice_index l 6 == 58 && (is_ascii_digit (slice_index l 7) && (is_ascii_digit (slice_index l 8) && closes l 9))))
+timed r =
+    is_ascii_digit (slice_index r 0) && (is_ascii_digit (slice_index r 1) && (slice_index r 2 == 58 && (is_ascii_digit (slice_index r 3) && (is_ascii_digit (slice_index r 4) && closes r 5))))
 
--- What stands after the bar: no stamp, or one that is good, or else none of these.
-abbrev pub stamp_at : List ℕ → Option Stamp
-stamp_at l =
-    if closes l 4 then Some Absent else (if timed l then time_class (two (slice_index l 4) (slice_index l 5)) (two (slice_index l 7) (slice_index l 8)) else None)
+-- What stands after the bar, in the rest r of the line: no stamp, or one that is good, or else none of these.
+abbrev pub stamp_of : List ℕ → Option Stamp
+stamp_of r =
+    if closes r 0 then Some Absent else (if timed r then time_class (two (slice_index r 0) (slice_index r 1)) (two (slice_index r 3) (slice_index r 4)) else None)
 
 -- The mark of a record number and a stamp. Three digits stay below 1,000, so the remainder is the number itself.
 abbrev pub mark_of : ℕ → Stamp → Mark
@@ -59,15 +59,14 @@ reading l =
     if not (is_ascii_digit (slice_index l 0)) then Err (NoDigit 1) else
     (if not (is_ascii_digit (slice_index l 1)) then Err (NoDigit 2) else
     (if not (is_ascii_digit (slice_index l 2)) then Err (NoDigit 3) else
-    (if not (slice_index l 3 == 124) then Err NoBar else stamped (record_number l) (stamp_at l))))
+    (if not (slice_index l 3 == 124) then Err NoBar else stamped (record_number l) (stamp_of (drop 4 l)))))
 
--- What the private helpers of the code read: the digit at byte i, that digit of a record number or the fault, and the two digits from byte i on.
-abbrev pub digit_at : List ℕ → ℕ → Option ℕ
-digit_at l i = if is_ascii_digit (slice_index l i) then Some (slice_index l i - 48) else None
+-- What the private helpers of the code read: the digit that a byte is, the digit at byte i of a record number or the fault, and the number of two digits.
+abbrev pub digit : ℕ → Option ℕ
+digit b = if is_ascii_digit b then Some (b - 48) else None
 
 abbrev pub number_digit : List ℕ → ℕ → Result ℕ LineFault
-number_digit l i = ok_or (digit_at l i) (NoDigit (i + 1))
+number_digit l i = ok_or (digit (slice_index l i)) (NoDigit (i + 1))
 
-abbrev pub two_at : List ℕ → ℕ → Option ℕ
-two_at l i =
-    if is_ascii_digit (slice_index l i) && is_ascii_digit (slice_index l (i + 1)) then Some (two (slice_index l i) (slice_index l (i + 1))) else None
+abbrev pub two_digits : ℕ → ℕ → Option ℕ
+two_digits a b = if is_ascii_digit a && is_ascii_digit b then Some (two a b) else None

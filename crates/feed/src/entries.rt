@@ -13,7 +13,7 @@ pub(crate) struct Entries<T> {
     ghost room: { count ≤ 32 },
 }
 
-// Kept: a copy by hand, since no derive of `Clone` is made for a generic struct with a ghost field.
+// Kept: a copy by hand, since no derive of `Clone` is made for a struct with a ghost field.
 impl<T: Copy> Clone for Entries<T> {
     ghost is_clone = { λ e copy. copy ≡ e };
 

@@ -31,9 +31,9 @@ fn fill<F: Feed>(feed: &mut F, buf: &mut [F::Letter]) -> Result<usize, Ungathere
     ensures answer { result ≡ gathered (F.waiting feed.old) (F.ending feed.old) (length buf.old) }
     ensures ranged { All F.Of.Kind.ranged (take (length buf.old) (F.waiting feed.old)) }
 {
-    for count in 0..buf.len() {
+    for (count, slot) in buf.iter_mut().enumerate() {
         match take_after(feed, count)? {
-            Some(letter) => buf[count] = letter,
+            Some(letter) => *slot = letter,
             None => return Ok(count),
         }
     }

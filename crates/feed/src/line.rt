@@ -1,6 +1,6 @@
 //! What one line of a meter file says.
-ghost use Rattle.std.specs.Prelude.{◌≡◌, ◌<◌, slice_index, IfOk, IfSome};
-ghost use Rattle.feed.specs.Line.{closes, digit_at, line_fault, mark_of, number_digit, reading, stamp_at, two_at};
+ghost use Rattle.std.specs.Prelude.{◌≡◌, ◌<◌, IfOk, IfSome};
+ghost use Rattle.feed.specs.Line.{digit, line_fault, mark_of, number_digit, reading, stamp_of, time_class, two_digits};
 
 use crate::fault::Fault;
 use alphabet::mark::{Mark, Stamp};
@@ -15,6 +15,7 @@ pub(crate) enum LineFault {
 
 impl LineFault {
     /// The fault of a feed, for the line with this number.
+    // Kept: no `From`, which takes the fault alone; the line's number comes from the feed.
     pub(crate) fn on(self, line: usize) -> Fault
         ensures { result ≡ line_fault line self }
     {
@@ -31,52 +32,41 @@ impl LineFault {
     }
 }
 
-/// The byte at `i`, from 0, or 0 past the line's end.
-fn byte_at(line: &[u8], i: usize) -> u8
-    ensures { result ≡ slice_index line.now i }
-{
-    line.get(i).copied().unwrap_or(0)
-}
-
-/// The digit at byte `i`, or none where no digit stands there.
-fn digit_at(line: &[u8], i: usize) -> Option<u8>
-    ensures value { result ≡ digit_at line.now i }
+/// The digit that a byte is, or none.
+fn digit(byte: u8) -> Option<u8>
+    ensures value { result ≡ digit byte }
     ensures low { IfSome result (λ d. d < 10) }
 {
-    let byte = byte_at(line, i);
     byte.is_ascii_digit().then(|| byte - b'0')
 }
 
-/// Whether the line ends before byte `i`, or has a bar there.
-fn is_closed(line: &[u8], i: usize) -> bool
-    ensures { result ≡ closes line.now i }
+/// The number of two digits, or none where one is missing.
+fn two(tens: u8, ones: u8) -> Option<u8>
+    ensures { result ≡ two_digits tens ones }
 {
-    line.get(i).is_none_or(|byte| *byte == b'|')
+    Some(10 * digit(tens)? + digit(ones)?)
 }
 
-/// The number of the two digits from byte `i` on, or none where one is missing.
-fn two_at(line: &[u8], i: usize) -> Option<u8>
-    requires { i < 9 }
-    ensures { result ≡ two_at line.now i }
+/// The class of a time of day, if it is one.
+fn time_class(hour: u8, minute: u8) -> Option<Stamp>
+    ensures { result ≡ time_class hour minute }
 {
-    Some(10 * digit_at(line, i)? + digit_at(line, i + 1)?)
-}
-
-/// The stamp after the bar.
-fn stamp(line: &[u8]) -> Option<Stamp>
-    ensures { result ≡ stamp_at line.now }
-{
-    if is_closed(line, 4) {
-        return Some(Stamp::Absent);
-    }
-    let hour = two_at(line, 4)?;
-    let minute = two_at(line, 7)?;
-    if byte_at(line, 6) != b':' || !is_closed(line, 9) {
-        return None;
-    }
     match (hour, minute) {
         (0 | 24, 0) => Some(Stamp::Midnight),
         (0..=23, 0..=59) => Some(Stamp::WithinDay),
+        _ => None,
+    }
+}
+
+/// The stamp after the bar, of which this is the rest of the line.
+fn stamp(rest: &[u8]) -> Option<Stamp>
+    ensures { result ≡ stamp_of rest.now }
+{
+    match rest {
+        [] | [b'|', ..] => Some(Stamp::Absent),
+        [a, b, b':', c, d] | [a, b, b':', c, d, b'|', ..] => {
+            time_class(two(*a, *b)?, two(*c, *d)?)
+        }
         _ => None,
     }
 }
@@ -87,7 +77,8 @@ fn number_digit(line: &[u8], i: usize) -> Result<u16, LineFault>
     ensures value { result ≡ number_digit line.now i }
     ensures low { IfOk result (λ d. d < 10) }
 {
-    digit_at(line, i)
+    line.get(i)
+        .and_then(|byte| digit(*byte))
         .map(u16::from)
         .ok_or(LineFault::NoDigit(i + 1))
 }
@@ -107,9 +98,9 @@ pub(crate) fn read_line(line: &[u8]) -> Result<Mark, LineFault>
     let number = 100 * number_digit(line, 0)?
         + 10 * number_digit(line, 1)?
         + number_digit(line, 2)?;
-    if byte_at(line, 3) != b'|' {
+    let [_, _, _, b'|', rest @ ..] = line else {
         return Err(LineFault::NoBar);
-    }
-    let stamp = stamp(line).ok_or(LineFault::NoStamp)?;
+    };
+    let stamp = stamp(rest).ok_or(LineFault::NoStamp)?;
     Ok(marked(number, stamp))
 }

@@ -44,9 +44,7 @@ fn answer(heap: Global, table: &[RawNode], word: &[u8]) -> Result<String, AllocE
     match first_tree::<Bytes>(&layout, word, &mut work, &mut turns) {
         Ok(count) => {
             text.push_str("turns ")?;
-            for turn in turns.iter().take(count) {
-                text.push(digit(*turn))?;
-            }
+            text.extend(turns.iter().take(count).map(|turn| digit(*turn)))?;
         }
         Err(MatchFault::NoWord(_)) => text.push_str("no word")?,
         Err(_) => text.push_str("no room")?,
@@ -55,9 +53,7 @@ fn answer(heap: Global, table: &[RawNode], word: &[u8]) -> Result<String, AllocE
     let width = usize::from(layout.places()) + 1;
     for row in work.chunks(width).take(word.len().saturating_add(1)) {
         text.push(' ')?;
-        for bit in row {
-            text.push(digit(*bit))?;
-        }
+        text.extend(row.iter().map(|bit| digit(*bit)))?;
     }
     Ok(text)
 }

@@ -1,5 +1,5 @@
 -- The walk over all letters.
-use Rattle.std.proofs.Common.{◌≡◌, ℕ, ◌+◌, ◌-◌, ◌*◌, ◌≤◌, true, ◌⊎◌, List, [], ◌∷◌, ◌++◌, length, get_or, take, drop, min, Some, None, Option, unwrap_or, inl, inr, sym, refl, ap, ◌∙◌, subst, append_assoc, add-mul, arith, length-append, length-drop}
+use Rattle.std.proofs.Common.{◌≡◌, ℕ, ◌+◌, ◌-◌, ◌*◌, ◌≤◌, true, ◌⊎◌, List, [], ◌∷◌, ◌++◌, length, get_or, take, drop, min, Some, None, Option, unwrap_or, inl, inr, sym, refl, ap, ◌∙◌, subst, is_some, append_assoc, add-mul, arith, length-append, length-drop}
 use Rattle.std.proofs.lemmas.List.{get_or_append_left, drop_at, take_all, drop-append-le, nil_from_length}
 use Rattle.expression.specs.Expressions.{Expr}
 use Rattle.expression.specs.Coming.{size}
@@ -102,10 +102,16 @@ module _ (m : Layout) (k : ℕ) (wide : k ≡ letter_count (whole m) + 1) (w : L
             sym (get_or_append_left chunk after 0 q (let z = chunk_long in omega arith)) ∙ ap (λ (l : List ℕ). get_or l q 0) (sym cut ∙ rest_is)
             ∙ rows_begin e others on.more q h
 
-        pub on_step : {q : Option ℕ} {new : Turns} → Gone (leg a (usable chunk) (continuation e p)) q mid new → {to : ℕ} → to ≡ unwrap_or q 0 → On e w others k to after old new
+        -- A letter is left, so the step leads to one.
+        pub on_leads : {q : Option ℕ} {new : Turns} → Gone (leg a (usable chunk) (continuation e p)) q mid new → is_some q ≡ true
+        on_leads gone =
+            let led = leads e a others (usable chunk) (usable_right e others chunk chunk_row) p (rw left-is at on.alive) in
+            rw (gone.leads, led.place) refl
+
+        pub on_step : {q : Option ℕ} {new : Turns} → Gone (leg a (usable chunk) (continuation e p)) q mid new → {to : ℕ} → q ≡ Some to → On e w others k to after old new
         on_step {q} {new} gone {to} back =
             let led = leads e a others (usable chunk) (usable_right e others chunk chunk_row) p (rw left-is at on.alive) in
-            let here : to ≡ led.to = back ∙ ap (λ (o : Option ℕ). unwrap_or o 0) (gone.leads ∙ led.place) in
+            let here : to ≡ led.to = ap (λ (o : Option ℕ). unwrap_or o 0) (sym back ∙ gone.leads ∙ led.place) in
             let short = leg_light e small p a (usable chunk) in
             let low = on.low in
             let one = ap length left-is in

@@ -9,6 +9,7 @@ use expression::layout::Layout;
 use expression::node::{Node, Shape};
 
 /// A layout, and which of its nodes a letter may be the first one in.
+/// The fields `code` and `next` tell contracts what the letter is; once the nodes are found, no code reads them.
 #[derive(Drop)]
 pub(crate) struct Entered<'a> {
     pub(crate) layout: &'a Layout,
@@ -17,8 +18,8 @@ pub(crate) struct Entered<'a> {
     /// A row, which tells which places can finish the letters after it.
     pub(crate) next: &'a [u8],
     /// Whether the letter may be the first one in the node with each number.
-    pub(crate) nodes: [bool; 256],
-    ghost right: { Entries layout.now code next.now nodes (length (nodes_of layout.now)) },
+    pub(crate) enterable: [bool; 256],
+    ghost right: { Entries layout.now code next.now enterable (length (nodes_of layout.now)) },
 }
 
 /// Does this row say that a place can finish the letters?
@@ -28,6 +29,7 @@ pub(crate) fn can_finish(bytes: &[u8], place: u8) -> bool
     bytes.get(usize::from(place)) == Some(&1)
 }
 
+// Kept: each crate reads a node under a contract of its own, since no public function may ask that there is such a node.
 /// The node with number `i`.
 #[tactic(auto, using(crate::proofs::Holding::tells))]
 pub(crate) fn read(layout: &Layout, i: u8) -> Node
@@ -63,18 +65,20 @@ impl<'a> Entered<'a> {
         ensures code { result.code ≡ code }
         ensures next { result.next.now ≡ next.now }
     {
-        let mut nodes = [false; 256];
+        let mut enterable = [false; 256];
+        // Kept: each answer looks up those of lower nodes by their numbers while it is noted.
         for i in 0..layout.len() as u8 {
-            nodes[usize::from(i)] = enters(layout, code, next, &nodes, i);
+            enterable[usize::from(i)] = enters(layout, code, next, &enterable, i);
         }
         Entered {
             layout,
             code,
             next,
-            nodes,
+            enterable,
         }
     }
 
+    // Kept: the code 0 and an empty row stand for no letter, since contracts alone read them.
     /// No node may be entered: no letter is left.
     #[tactic(auto, using(crate::proofs::Passes::entries_none))]
     pub(crate) fn nowhere(layout: &'a Layout) -> Entered<'a>
@@ -86,7 +90,7 @@ impl<'a> Entered<'a> {
             layout,
             code: 0,
             next: &[],
-            nodes: [false; 256],
+            enterable: [false; 256],
         }
     }
 
@@ -96,6 +100,6 @@ impl<'a> Entered<'a> {
         ensures inside { result < length (nodes_of self.now.layout.now) }
         ensures all { held self.now.layout.now result ≡ item 0 (whole self.now.layout.now) }
     {
-        (self.layout.len() - 1) as u8
+        self.layout.root()
     }
 }

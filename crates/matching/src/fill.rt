@@ -11,6 +11,7 @@ use alphabet::kind::Kind;
 use expression::layout::Layout;
 
 /// Fills the work of `letters`, row by row from their end.
+// Kept: the clause `short` stands in three contracts; a struct that holds it would need its layout and letters unpacked in each of their clauses.
 pub(crate) fn fill<K: Kind>(layout: &Layout, letters: &[K::Letter], work: &mut [u8])
     requires short { length letters.now ≤ longest }
     requires room { (length letters.now + 1) * (letter_count (whole layout.now) + 1) ≤ length work.old }
@@ -18,6 +19,7 @@ pub(crate) fn fill<K: Kind>(layout: &Layout, letters: &[K::Letter], work: &mut [
 {
     let width = row_width(layout);
     end_row(layout, &mut work[letters.len() * width..]);
+    // Kept: each row is written before the one that it reads, both in one buffer, and the parts that `chunks_mut` lends cannot read each other.
     for (t, letter) in letters.iter().enumerate().rev() {
         next_row(layout, K::code(*letter), &mut work[t * width..]);
     }

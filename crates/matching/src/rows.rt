@@ -12,13 +12,14 @@ use crate::entered::{Entered, read};
 use expression::layout::Layout;
 use expression::node::Shape;
 
+// Kept: a part that carries its layout would need a clause in each of these that it is the same layout, in place of the bound on its number.
 impl Entered<'_> {
     /// May node `i` be entered, or be passed over where `on` tells of what comes after it?
     fn onward(&self, i: u8, on: bool) -> bool
         requires { i < length (nodes_of self.now.layout.now) }
         ensures { result ≡ reaches self.now.code (usable self.now.next.now) (held self.now.layout.now i ∷ []) on }
     {
-        self.nodes[usize::from(i)] || (read(self.layout, i).admits && on)
+        self.enterable[usize::from(i)] || (read(self.layout, i).admits && on)
     }
 
     /// Writes the bytes of the places in node `i` into a row, where `on` tells of what comes after the node.
@@ -68,6 +69,7 @@ pub(crate) fn row_width(layout: &Layout) -> usize
     usize::from(layout.places()) + 1
 }
 
+// Kept: that a row has room stands in three contracts; a struct of a layout and a row would be unpacked in each of their clauses.
 /// Writes the row of no letters to the start of `bytes`.
 pub(crate) fn end_row(layout: &Layout, bytes: &mut [u8])
     requires { letter_count (whole layout.now) < length bytes.old }

@@ -10,6 +10,7 @@ use crate::entered::{Entered, read};
 use crate::turns::Turns;
 use expression::node::Shape;
 
+// Kept: a part that carries its layout would need a clause in each of these that it is the same layout, in place of the bound on its number.
 impl Entered<'_> {
     /// Writes the turns of the way from node `i` to its first letter that may come next, and answers the letter's place.
     fn enter(&self, i: u8, turns: &mut Turns<'_>) -> Option<u8>
@@ -21,7 +22,7 @@ impl Entered<'_> {
             Shape::Letter(_) => Some(here.letters),
             Shape::Empty => None,
             Shape::Pair(first, second) => {
-                if self.nodes[usize::from(first)] {
+                if self.enterable[usize::from(first)] {
                     self.enter(first, turns)
                 } else {
                     turns.put_empty_tree(self.layout, first);
@@ -29,7 +30,7 @@ impl Entered<'_> {
                 }
             }
             Shape::Or(first, second) => {
-                if self.nodes[usize::from(first)] {
+                if self.enterable[usize::from(first)] {
                     turns.put(0);
                     self.enter(first, turns)
                 } else {
@@ -49,7 +50,7 @@ impl Entered<'_> {
         requires { i < length (nodes_of self.now.layout.now) }
         ensures { Gone (leg self.now.code (usable self.now.next.now) (held self.now.layout.now i ∷ [])) result turns.old turns.new }
     {
-        if self.nodes[usize::from(i)] {
+        if self.enterable[usize::from(i)] {
             self.enter(i, turns)
         } else {
             turns.put_empty_tree(self.layout, i);
@@ -68,6 +69,7 @@ impl Entered<'_> {
             Shape::Letter(_) | Shape::Empty => None,
             Shape::Pair(first, second) => {
                 if p <= read(self.layout, first).letters {
+                    // Kept: what `or_else` makes of turns that its closure captures has no name that a proof can use, so the proof didn't close.
                     match self.leave(p, first, turns) {
                         Some(place) => Some(place),
                         None => self.pass(second, turns),
@@ -83,6 +85,7 @@ impl Entered<'_> {
                     self.leave(p, second, turns)
                 }
             }
+            // Kept: as for a pair, the proof with `or_else` didn't close.
             Shape::Star(child) => match self.leave(p, child, turns) {
                 Some(place) => Some(place),
                 None => self.pass(i, turns),

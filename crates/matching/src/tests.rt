@@ -12,12 +12,10 @@ use std::test::Fail;
 /// The number of turns that a word of marks has, and a buffer with them at its start.
 fn read_marks(heap: Global, table: &[RawNode], classes: &[u16]) -> Result<(usize, [u8; 9]), Fail> {
     let layout = Layout::new::<Marks>(heap, table)?;
-    let mut letters = Vec::new(heap);
-    for class in classes {
-        if let Some(mark) = Mark::new(100, *class) {
-            letters.push(mark)?;
-        }
-    }
+    let letters: Vec<Mark> = classes
+        .iter()
+        .filter_map(|class| Mark::new(100, *class))
+        .collect(heap)?;
     let mut work = [9; 64];
     let mut turns = [7; 9];
     let count = first_tree::<Marks>(&layout, &letters, &mut work, &mut turns)?;

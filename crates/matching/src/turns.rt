@@ -17,6 +17,7 @@ impl Turns<'_> {
     pub(crate) fn put(&mut self, turn: u8)
         ensures { Put (turn ∷ []) self.old self.new }
     {
+        // Kept: the contract of a slice's `get_mut` says nothing of what the slice ends as, so a proof with it cannot close.
         if self.count < self.buffer.len() {
             self.buffer[self.count] = turn;
         }

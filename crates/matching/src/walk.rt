@@ -31,7 +31,7 @@ pub(crate) fn walk<K: Kind>(
     let mut place = 0;
     for (letter, row) in letters.iter().zip(work[width..].chunks(width)) {
         let entered = Entered::new(layout, K::code(*letter), row);
-        place = entered.step(place, &mut turns).unwrap_or(0);
+        place = entered.step(place, &mut turns).unwrap();
     }
     Entered::nowhere(layout).step(place, &mut turns);
     turns.count

@@ -29,15 +29,11 @@ impl From<Refusal> for Figures {
             Refusal::Full => (42, 0),
             Refusal::Table(TableFault::NoMemory) | Refusal::NoMemory => (1, 0),
         };
-        Figures {
-            number,
-            first,
-            second: 0,
-        }
+        Figures::new(number, first, 0)
     }
 }
 
-/// Want of memory is one refusal, wherever it came.
+/// Want of memory is one refusal, wherever it came from.
 impl From<TableFault> for Refusal {
     ghost from_gives = { λ f r. r ≡ refused_table f };
 

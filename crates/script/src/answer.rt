@@ -35,6 +35,7 @@ pub enum LineFault {
 }
 
 impl LineFault {
+    // Kept: a method, as that of a form's fault; a script that is too long has no line, and its figures tell none.
     /// The number and the two values that are printed, where the fault is in the line with this number.
     pub fn figures(self, line: usize) -> Figures
         ensures { result ≡ line_figures self line }
@@ -42,11 +43,7 @@ impl LineFault {
         match self {
             LineFault::Form(fault) => fault.figures(line),
             LineFault::Call(refusal) => refusal.into(),
-            LineFault::TooLong => Figures {
-                number: 54,
-                first: 0,
-                second: 0,
-            },
+            LineFault::TooLong => Figures::new(54, 0, 0),
         }
     }
 

@@ -17,10 +17,8 @@ fn line_at<'a>(text: &'a [u8], index: usize) -> &'a [u8]
 fn numbered<'a>(text: &'a [u8], line: usize) -> &'a [u8]
     ensures { result.now ≡ line_numbered (lines text.now) line }
 {
-    match line.checked_sub(1) {
-        Some(index) => line_at(text, index),
-        None => &[],
-    }
+    line.checked_sub(1)
+        .map_or(&[], |index| line_at(text, index))
 }
 
 /// The line with the number `line`, from 1, of the text that `source` names; the empty part where it has no such line.

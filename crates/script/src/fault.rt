@@ -26,22 +26,18 @@ pub enum FormFault {
 }
 
 impl FormFault {
+    // Kept: a method, since a From takes the fault alone, and its line's number comes from beside it.
     /// The number and the two values that are printed: what is wrong, the line, and the byte from 1 at which it is wrong.
     pub fn figures(self, line: usize) -> Figures
         ensures { result ≡ form_figures self line }
     {
-        let (number, first, second) = match self {
-            FormFault::Token(TokenFault::BadByte(place)) => (51, line, place),
-            FormFault::Misfit(place) => (52, line, place),
+        match self {
+            FormFault::Token(TokenFault::BadByte(place)) => Figures::new(51, line, place),
+            FormFault::Misfit(place) => Figures::new(52, line, place),
             FormFault::Token(TokenFault::TooLarge(place)) | FormFault::TooManyNodes(place) => {
-                (53, line, place)
+                Figures::new(53, line, place)
             }
-            FormFault::NoMemory => (1, 0, 0),
-        };
-        Figures {
-            number,
-            first,
-            second,
+            FormFault::NoMemory => Figures::new(1, 0, 0),
         }
     }
 }

@@ -3,7 +3,7 @@ use alphabet::bytes::Bytes;
 use alphabet::kind::Kind;
 use alphabet::marks::Marks;
 
-// Kept: plain numbers (a), since the reader recurses, and so is not generic in the letter kind.
+// Kept: plain numbers, since a rule of the project has code that recurses told the letter kind by one.
 /// The dialect of marks, `(m NUMBER CLASS)`.
 pub const MARKS: u8 = 0;
 

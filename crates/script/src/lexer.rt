@@ -12,14 +12,14 @@ use crate::token::{Run, Sort};
 fn begins(b: u8) -> bool
     ensures { result ≡ begins_token b }
 {
-    matches!(b as char, 'a'..='z' | '0'..='9' | '(' | ')' | '-')
+    matches!(char::from(b), 'a'..='z' | '0'..='9' | '(' | ')' | '-')
 }
 
 /// Whether a line may hold the byte.
 fn is_known(b: u8) -> bool
     ensures { result ≡ known b }
 {
-    begins(b) || b as char == ' '
+    begins(b) || char::from(b) == ' '
 }
 
 /// Whether the byte goes on in a run.
@@ -27,8 +27,8 @@ fn belongs(run: Run, b: u8) -> bool
     ensures { result ≡ in_run run b }
 {
     match run {
-        Run::Letters => matches!(b as char, 'a'..='z'),
-        Run::Digits => matches!(b as char, '0'..='9'),
+        Run::Letters => matches!(char::from(b), 'a'..='z'),
+        Run::Digits => matches!(char::from(b), '0'..='9'),
     }
 }
 
@@ -64,7 +64,7 @@ pub(crate) fn front(rest: &[u8]) -> (Sort, usize)
     let [first, ..] = rest else {
         return (Sort::End, 0);
     };
-    match *first as char {
+    match char::from(*first) {
         '(' => (Sort::Open, 1),
         ')' => (Sort::Close, 1),
         'a'..='z' => (Sort::Name, run_length(Run::Letters, rest)),

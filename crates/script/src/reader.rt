@@ -58,6 +58,7 @@ fn byte_code(value: u16) -> Option<u16>
     Bytes::letter(value).map(Bytes::code)
 }
 
+// Kept: names stay bare, as the grammar in specs/ has them, and so the node of a pair or an or is told here, and of no other name.
 /// The node of a name with two parts.
 fn joint(name: Name) -> RawNode
     ensures { result ≡ joint_of name }
@@ -125,7 +126,7 @@ fn put(table: &mut Vec<RawNode>, node: RawNode) -> Result<(), FormFault>
 }
 
 /// Reads an expression of at most `left` nodes, and adds its nodes to the table. Says how many nodes may still open.
-// Kept: the kind stays a parameter beside the cursor (d): in one struct each reader would promise that it keeps the kind.
+// Kept: the kind is a parameter beside the cursor: were both one struct, each reader would also have to promise that the kind stays.
 pub(crate) fn expr(
     kind: u8,
     line: &mut Cursor,

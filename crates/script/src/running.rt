@@ -90,6 +90,7 @@ fn refuse(
     }
 }
 
+// Kept: register and output stay beside the setting, which is copied and says what stays the same while a script runs.
 /// Answers the line with this number.
 fn respond<K: Dialect>(
     setting: Setting,

@@ -18,20 +18,28 @@ first_cut [] h = absurd (omega arith)
 first_cut (b ∷ []) h = grind arith
 first_cut (b ∷ (c ∷ text)) h = let rest = first_cut (c ∷ text) (omega arith) in grind arith
 
--- The line that begins at `from`, of n bytes, where there is one.
-pub cut : (text : List ℕ) (feed : Option ℕ) (from n next : ℕ) → from < length text
-    → feed ≡ position (λ b. nat_eq b 10) (take (length text - from) (drop from text))
-    → n ≡ unwrap_or feed (length (take (length text - from) (drop from text)))
-    → next ≡ min (from + n + 1) (length text)
-    → lines (drop from text) ≡ take n (take (length text - from) (drop from text)) ∷ lines (drop next text)
-cut text feed from n next h p e m =
-    let rest = take (length text - from) (drop from text) in
+-- The first line, of n bytes, of a text that has one, and where the next begins.
+pub cut : (text : List ℕ) (feed : Option ℕ) (n next : ℕ) → 0 < length text
+    → feed ≡ position (λ b. nat_eq b 10) text
+    → n ≡ unwrap_or feed (length text)
+    → next ≡ min (n + 1) (length text)
+    → lines text ≡ take n text ∷ lines (take (length text - next) (drop next text))
+cut text feed n next h p e m =
+    let size = length-drop next text in
+    let f : n ≡ first text = e ∙ ap (λ o. unwrap_or o (length text)) p ∙ first_is text in
+    let r : drop (n + 1) text ≡ take (length text - next) (drop next text) = sym (drop_min (n + 1) text) ∙ ap (λ k. drop k text) (sym m) ∙ sym (take_all (length text - next) (drop next text) (omega arith)) in
+    first_cut text h ∙ ap (λ k. take k text ∷ lines (drop (k + 1) text)) (sym f) ∙ ap (λ t. take n text ∷ lines t) r
+
+-- What is left after n bytes and one more from `from` on is what is left from where the next line begins.
+pub onward : (text rest : List ℕ) (from n : ℕ) → from ≤ length text
+    → rest ≡ drop (n + 1) (take (length text - from) (drop from text))
+    → rest ≡ drop (length text - length rest) text
+onward text rest from n h e =
     let size = length-drop from text in
-    let s : rest ≡ drop from text = take_all (length text - from) (drop from text) (omega arith) in
-    let f : n ≡ first rest = e ∙ ap (λ o. unwrap_or o (length rest)) p ∙ first_is rest in
-    let l : 0 < length rest = rw (s, length-drop) (omega arith) in
-    let r : drop (n + 1) rest ≡ drop next text = ap (drop (n + 1)) s ∙ drop-drop (n + 1) from text ∙ ap (λ k. drop k text) (omega arith) ∙ sym (drop_min (from + n + 1) text) ∙ ap (λ k. drop k text) (sym m) in
-    ap lines (sym s) ∙ first_cut rest l ∙ ap (λ k. take k rest ∷ lines (drop (k + 1) rest)) (sym f) ∙ ap (λ t. take n rest ∷ lines t) r
+    let s : take (length text - from) (drop from text) ≡ drop from text = take_all (length text - from) (drop from text) (omega arith) in
+    let d : rest ≡ drop (from + n + 1) text = e ∙ ap (drop (n + 1)) s ∙ drop-drop (n + 1) from text ∙ ap (λ k. drop k text) (omega arith) in
+    let l : length rest ≡ length text - (from + n + 1) = ap length d ∙ length-drop (from + n + 1) text in
+    d ∙ sym (drop_min (from + n + 1) text) ∙ ap (λ k. drop k text) (omega (arith, l))
 
 -- Each line has a byte of its own in the text.
 pub few : (text : List ℕ) → length (lines text) ≤ length text

@@ -1,7 +1,7 @@
 //! Going over the lines of a text.
 ghost use Rattle.std.specs.Iterator.{YieldsFirstRef, item_count};
 
-use crate::lines::next_line;
+use crate::lines::split_line;
 use std::marker::Model;
 
 /// The lines of a text that are still to come.
@@ -27,8 +27,8 @@ impl<'a> Iterator for Lines<'a> {
     ghost remaining = { item_count (λ s. s) };
 
     fn next(&mut self) -> Option<&'a [u8]> {
-        let line = next_line(self.rest, 0)?;
-        self.rest = &self.rest[line.next..];
-        Some(line.bytes)
+        let (line, rest) = split_line(self.rest)?;
+        self.rest = rest;
+        Some(line)
     }
 }

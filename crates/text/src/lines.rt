@@ -6,6 +6,7 @@ ghost use Rattle.text.specs.Lines.{lines};
 use crate::iter::Lines;
 
 /// A line of a text, and where the next one begins.
+// Kept: a place to go on from, not the part that is left: this is public, and a line feed holds its place.
 #[derive(Clone, Copy)]
 pub struct Line<'a> {
     pub bytes: &'a [u8],
@@ -19,21 +20,32 @@ fn first_feed(text: &[u8]) -> Option<usize>
     text.iter().position(|b| *b == b'\n')
 }
 
-/// The line that begins at the byte `from`, and where the next begins; none where `from` is at the text's end or past it.
+/// The first line of a text, and the part after it; none where the text is empty.
 #[tactic(auto, using(crate::proofs::Cuts::cut))]
+pub(crate) fn split_line<'a>(text: &'a [u8]) -> Option<(&'a [u8], &'a [u8])>
+    ensures cut { MatchOption result (lines text.now ≡ []) (λ p. lines text.now ≡ p.0.now ∷ lines p.1.now) }
+    ensures rest { MatchOption result (text.now ≡ []) (λ p. p.1.now ≡ drop (length p.0.now + 1) text.now) }
+    ensures less { MatchOption result (text.now ≡ []) (λ p. length p.1.now < length text.now) }
+{
+    if text.is_empty() {
+        return None;
+    }
+    let length = first_feed(text).unwrap_or(text.len());
+    let next = (length + 1).min(text.len());
+    Some((&text[..length], &text[next..]))
+}
+
+/// The line that begins at the byte `from`, and where the next begins; none where `from` is at the text's end or past it.
+#[tactic(auto, using(crate::proofs::Cuts::onward))]
 pub fn next_line<'a>(text: &'a [u8], from: usize) -> Option<Line<'a>>
     ensures cut { MatchOption result (lines (drop from text.now) ≡ []) (λ l. lines (drop from text.now) ≡ l.bytes.now ∷ lines (drop l.next text.now)) }
     ensures next { MatchOption result (length text.now ≤ from) (λ l. l.next ≡ min (from + length l.bytes.now + 1) (length text.now)) }
     ensures onward { MatchOption result (length text.now ≤ from) (λ l. from < l.next) }
 {
-    if from >= text.len() {
-        return None;
-    }
-    let rest = &text[from..];
-    let length = first_feed(rest).unwrap_or(rest.len());
+    let (bytes, rest) = split_line(text.get(from..)?)?;
     Some(Line {
-        bytes: &rest[..length],
-        next: (from + length + 1).min(text.len()),
+        bytes,
+        next: text.len() - rest.len(),
     })
 }
 

@@ -9,6 +9,7 @@ use std::alloc::{AllocError, Global};
 use std::io;
 
 /// The node that a byte stands for.
+// Kept: both types are of other crates, so a From would need a type of its own here, which is no plainer.
 fn node(byte: u8) -> RawNode {
     match byte {
         b'.' => RawNode::Empty,
@@ -54,10 +55,7 @@ fn print_letters(rt: &HostRuntime, layout: &Layout, turns: &[u8]) -> io::Result<
 /// Prints the turns of the first tree without letters.
 fn print_empty(rt: &HostRuntime, layout: &Layout) -> io::Result<()> {
     let mut turns = [0; 255];
-    let Ok(root) = u8::try_from(layout.len() - 1) else {
-        return Ok(());
-    };
-    let Some(count) = layout.put_empty_tree(root, &mut turns, 0) else {
+    let Some(count) = layout.put_empty_tree(layout.root(), &mut turns, 0) else {
         return println!(rt; " none");
     };
     print!(rt; " ({count})")?;

@@ -4,5 +4,5 @@ use Rattle.arrayvec.proofs.ArrayVecLemmas.{items-with_items}
 use Rattle.containment.proofs.index.sorted.Goals as goal
 
 pub returns-clause-rising : goal.returns-clause-rising
-returns-clause-rising c = rw (items-with_items c.loop-start.sorted c.sort_unstable_by_key.new.self (search rules))
+returns-clause-rising c = rw (items-with_items c.unwrap-sorted.result c.sort_unstable_by_key.new.self (search rules))
     (IsNonDecreasingBy-from_sort_by_key (slice_index c.args.numbers.now) _ c.sort_unstable_by_key.ensures.sorted (λ a r q k. search rules))

@@ -11,14 +11,14 @@ pub returns-in_err-check : goal.returns-in_err-check
 returns-in_err-check c =
     let p = err_from_is_err_and c.from_residual.result c.from_residual.ensures.1 in
     let x =
-    told_order c.args.earlier.now c.args.later.now c.args.rows.now _ _ c.places.ensures c.places-2.ensures c.in_err-check.field-0.0
+    told_order c.args.earlier.now c.args.later.now c.args.rows.now _ _ c.of.ensures.earlier c.of.ensures.later c.in_err-check.field-0.0
     (sym c.in_err-check.was ∙ c.check.ensures) c.from_residual.result (p.1 ∙ ap (λ f. Err f) p.2) in
     record { judged = x.judged; accepts = x.accepts; sound = x.sound }
 
 pub returns : goal.returns
 returns c =
     let x =
-    told_rules c.args.earlier.now c.args.later.now c.args.rows.now _ _ c.places.ensures c.places-2.ensures (sym c.in_ok-check.was ∙ c.check.ensures)
+    told_rules c.args.earlier.now c.args.later.now c.args.rows.now _ _ c.of.ensures.earlier c.of.ensures.later (sym c.in_ok-check.was ∙ c.check.ensures)
     c.check_rules.result
     (
     c.check_rules.ensures
@@ -30,5 +30,5 @@ pub new-rows-requires : goal.new-rows-requires
 new-rows-requires c =
     listed c.args.earlier.now c.args.later.now c.args.rows.now
     (
-    well c.args.earlier.now c.args.later.now c.args.rows.now _ _ c.places.ensures c.places-2.ensures (sym c.in_ok-check.was ∙ c.check.ensures)
+    well c.args.earlier.now c.args.later.now c.args.rows.now _ _ c.of.ensures.earlier c.of.ensures.later (sym c.in_ok-check.was ∙ c.check.ensures)
     )

@@ -4,7 +4,7 @@ use Rattle.containment.proofs.Reaching.{start_finish, letter_more, word_end}
 use Rattle.containment.proofs.word.is_word.Goals as goal
 
 pub loop-letter-init : goal.loop-letter-init
-loop-letter-init g c = start_finish (expression_of c.args.layout.now) c.marks-set.result c.marks-set.ensures (map g.K.Kind.coded c.args.word.now)
+loop-letter-init g c = start_finish (expression_of c.args.layout.now) c.of-set.result c.of-set.ensures (map g.K.Kind.coded c.args.word.now)
 
 pub loop-letter-preserved : goal.loop-letter-preserved
 loop-letter-preserved g c =

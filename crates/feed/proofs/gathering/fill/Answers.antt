@@ -1,4 +1,5 @@
 use Rattle.std.proofs.Common.{◌≡◌, ◌+◌, ◌≤◌, Err, length, drop, ap, ◌∙◌, arith, rules}
+use Rattle.std.proofs.lemmas.List.{set-get_or}
 use Rattle.std.proofs.lemmas.Result.{err_from_is_err_and}
 use Rattle.feed.proofs.GatherLaws.{took_none, took_some, more_left, more_buffer, more_within, more_ranged, ended_buffer, ended_left, ended_answer, ended_ranged}
 use Rattle.feed.proofs.gathering.fill.Goals as goal
@@ -13,7 +14,7 @@ returns-in_err-letter g c =
     let room : n ≤ length b = omega arith in
     let p = err_from_is_err_and c.from_residual.result c.from_residual.ensures.1 in
     record {
-      buffer = ended_buffer w b _ n i.0 t.0 i.2 room _ i.1;
+      buffer = set-get_or _ n _ ∙ ended_buffer w b _ n i.0 t.0 i.2 room _ i.1;
       left = ended_left w b _ n i.0 t.0 i.2 room _ t.1;
       same = search rules;
       answer = p.1 ∙ ap Err p.2 ∙ ended_answer w b _ n i.0 t.0 i.2 room _ _ _ i.3 t.2;
@@ -29,7 +30,7 @@ returns-in-None g c =
     let t = took_none n _ _ _ _ c.in-None.is c.in_ok-letter.ensures.took in
     let room : n ≤ length b = omega arith in
     record {
-      buffer = ended_buffer w b _ n i.0 t.0 i.2 room _ i.1;
+      buffer = set-get_or _ n _ ∙ ended_buffer w b _ n i.0 t.0 i.2 room _ i.1;
       left = ended_left w b _ n i.0 t.0 i.2 room _ t.1;
       same = search rules;
       answer = ended_answer w b _ n i.0 t.0 i.2 room _ _ _ i.3 t.2;

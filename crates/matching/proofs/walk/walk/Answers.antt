@@ -2,7 +2,7 @@ use Rattle.std.proofs.Common.{◌≡◌, map, refl, ap, ◌∙◌, inl, inr, rul
 use Rattle.std.proofs.lemmas.List.{length-map}
 use Rattle.std.specs.Slice.Iter.{iter_rest}
 use Rattle.std.specs.Iterator.Adapters.{zip_first}
-use Rattle.matching.proofs.WalkLaws.{row_there, on_start, on_step, on_end, both_end, gone_as}
+use Rattle.matching.proofs.WalkLaws.{row_there, on_start, on_leads, on_step, on_end, both_end, gone_as}
 use Rattle.matching.proofs.walk.walk.Goals as goal
 
 pub slice_bounds-chunks-count : goal.slice_bounds-chunks-count
@@ -32,8 +32,16 @@ loop-letter-preserved g c =
       chunked = st.1.0 ∙ inv.chunked;
       on =
           on_step c.args.layout.now c.row_width-width.result c.row_width-width.ensures.is (map g.K.Kind.coded c.args.letters.now) inv.on (ap (map g.K.Kind.coded) st.0)
-          _ _ st.1.1.0 (rw inv.chunked at st.1.1.1) (gone_as c.loop-letter.place e.layout (e.code ∙ c.code.ensures) e.next c.step.ensures) c.unwrap_or-place.ensures;
+          _ _ st.1.1.0 (rw inv.chunked at st.1.1.1) (gone_as c.loop-letter.place e.layout (e.code ∙ c.code.ensures) e.next c.step.ensures) c.unwrap-place.ensures;
     }
+
+pub unwrap-place-requires : goal.unwrap-place-requires
+unwrap-place-requires g c =
+    let st = c.in-Some.ensures.steps in
+    let inv = c.loop-letter.invariant in
+    let e = c.new-entered.ensures in
+    on_leads c.args.layout.now c.row_width-width.result c.row_width-width.ensures.is (map g.K.Kind.coded c.args.letters.now) inv.on (ap (map g.K.Kind.coded) st.0)
+    _ _ st.1.1.0 (rw inv.chunked at st.1.1.1) (gone_as c.loop-letter.place e.layout (e.code ∙ c.code.ensures) e.next c.step.ensures)
 
 pub returns : goal.returns
 returns g c =

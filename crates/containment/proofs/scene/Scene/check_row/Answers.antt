@@ -5,16 +5,16 @@ use Rattle.containment.proofs.Tabled.{place_low, ends_fault, goes_fault}
 use Rattle.containment.proofs.scene.Scene.check_row.Goals as goal
 use Rattle.containment.proofs.scene.Scene.check_row.Goals.{else-here-via-then-here+else-not-there, else-here-via-else-here}
 
-pub marks-requires : goal.marks-requires
-marks-requires c = let x = c.args.self.now in place_low x.earlier.layout.now x.later.layout.now x.rows.now.numbers.now x.well c.args.n c.requires _ c.row-row.ensures.place
+pub of-requires : goal.of-requires
+of-requires c = let x = c.args.self.now in place_low x.earlier.layout.now x.later.layout.now x.rows.now.numbers.now x.well c.args.n c.requires _ c.row-row.ensures.place
 
 pub returns-then-not-there : goal.returns-then-not-there
 returns-then-not-there c =
     let x = c.args.self.now in
     ap verdict (
     sym (
-    ends_fault x.earlier.layout.now x.later.layout.now x.rows.now.numbers.now x.well c.args.n c.requires _ _ c.row-row.ensures.place c.row-row.ensures.set _ _ c.marks.ensures
-    c.marks-2.ensures _ _ c.after-here.ensures c.after-there.ensures _ _ x.earlier.coded x.later.coded (λ i. c.if-here.true i && not (c.if-not-there.true i))
+    ends_fault x.earlier.layout.now x.later.layout.now x.rows.now.numbers.now x.well c.args.n c.requires _ _ c.row-row.ensures.place c.row-row.ensures.set _ _ c.of.ensures
+    c.of-2.ensures _ _ c.after-here.ensures c.after-there.ensures _ _ x.earlier.coded x.later.coded (λ i. c.if-here.true i && not (c.if-not-there.true i))
     )
     )
 
@@ -28,8 +28,8 @@ returns-in-Some c =
     ] in
     ap verdict (
     sym (
-    goes_fault x.earlier.layout.now x.later.layout.now x.rows.now.numbers.now x.well c.args.n c.requires _ _ c.row-row.ensures.place c.row-row.ensures.set _ _ c.marks.ensures
-    c.marks-2.ensures _ _ c.after-here.ensures c.after-there.ensures _ _ x.earlier.coded x.later.coded (Some c.in-Some.f) c.in-Some.ensures free
+    goes_fault x.earlier.layout.now x.later.layout.now x.rows.now.numbers.now x.well c.args.n c.requires _ _ c.row-row.ensures.place c.row-row.ensures.set _ _ c.of.ensures
+    c.of-2.ensures _ _ c.after-here.ensures c.after-there.ensures _ _ x.earlier.coded x.later.coded (Some c.in-Some.f) c.in-Some.ensures free
     )
     )
 
@@ -43,7 +43,7 @@ returns-in-None c =
     ] in
     ap verdict (
     sym (
-    goes_fault x.earlier.layout.now x.later.layout.now x.rows.now.numbers.now x.well c.args.n c.requires _ _ c.row-row.ensures.place c.row-row.ensures.set _ _ c.marks.ensures
-    c.marks-2.ensures _ _ c.after-here.ensures c.after-there.ensures _ _ x.earlier.coded x.later.coded None c.in-None.ensures free
+    goes_fault x.earlier.layout.now x.later.layout.now x.rows.now.numbers.now x.well c.args.n c.requires _ _ c.row-row.ensures.place c.row-row.ensures.set _ _ c.of.ensures
+    c.of-2.ensures _ _ c.after-here.ensures c.after-there.ensures _ _ x.earlier.coded x.later.coded None c.in-None.ensures free
     )
     )

@@ -1,4 +1,4 @@
-use Rattle.std.proofs.Common.{◌≡◌, ◌-◌, [], ◌∷◌, ◌++◌, reverse, refl, ap, ◌∙◌, arith}
+use Rattle.std.proofs.Common.{◌≡◌, [], ◌∷◌, ◌++◌, reverse, refl, ap, ◌∙◌, arith}
 use Rattle.expression.specs.Layouts.{nodes_of}
 use Rattle.expression.specs.Nodes.{last}
 use Rattle.expression.proofs.Passing.{start_fits, start_weight, start_codes}
@@ -8,8 +8,7 @@ use Rattle.expression.proofs.walk.Walk.new.Goals.{After-push}
 
 root : (c : After-push) → reverse c.push.new.self.items ≡ at_once (last (nodes_of c.args.layout.now)) ∷ []
 root c =
-    let n : c.len-root.result - 1 ≡ last (nodes_of c.args.layout.now) = omega (arith, c.len-root.ensures, c.args.layout.now.nodes.ok.0) in
-    one_on [] _ _ _ (c.push.ensures.items ∙ ap (λ k. k ++ c.at_once.result ∷ []) c.new-pending.ensures) (c.at_once.ensures ∙ ap at_once n)
+    one_on [] _ _ _ (c.push.ensures.items ∙ ap (λ k. k ++ c.at_once.result ∷ []) c.new-pending.ensures) (c.at_once.ensures ∙ ap at_once c.root.ensures)
 
 pub invariant_of-result : goal.invariant_of-result
 invariant_of-result c =
