@@ -17,6 +17,22 @@ ranged_stamped n h s = go (dec_lt n 1000)
     go (yes k) = ap (λ p. Some (mark n p s)) (le_prop k h)
     go (no f) = absurd (f h)
 
+-- The same of a stamp that may not be there.
+pub ranged_named : (n : ℕ) (h : n < 1000) (s : Stamp) (o : Option Stamp) → o ≡ Some s → option_and_then (mark_stamped n) o ≡ Some (mark n h s)
+ranged_named n h s o e = rw e (ranged_stamped n h s)
+
+-- With no stamp, or a record number out of range, there is no mark.
+pub unnamed_class : (n : ℕ) (o : Option Stamp) → o ≡ None → option_and_then (mark_stamped n) o ≡ None
+unnamed_class n o e = rw e refl
+
+pub unnamed_number : (n : ℕ) (o : Option Stamp) → (n < 1000 → ⊥) → option_and_then (mark_stamped n) o ≡ None
+unnamed_number n None f = refl
+unnamed_number n (Some s) f = go (dec_lt n 1000)
+  where
+    go : (d : Dec (n < 1000)) → in_range n d s ≡ None
+    go (yes h) = absurd (f h)
+    go (no _) = refl
+
 pub classed : (s : Stamp) → stamp_classed (class_of s) ≡ Some s
 classed Absent = refl
 classed WithinDay = refl

@@ -11,6 +11,7 @@ mod Wiring
 mod Filling
 mod Passing
 mod Indexing
+mod Serving
 mod Marking
 mod Tabled
 mod Answering

@@ -13,11 +13,11 @@ use Rattle.expression.specs.Places.{letter_count, follows, may_end}
 use Rattle.containment.specs.declared.after.After.{After}
 use Rattle.expression.specs.declared.layout.Layout.{Layout}
 use Rattle.containment.specs.declared.fault.RowsFault.{RowsFault}
-use Rattle.containment.specs.declared.fault.RowsFault.TheVariants.{Start, End}
+use Rattle.containment.specs.declared.fault.RowsFault.TheVariants.{End}
 use Rattle.containment.specs.Format.{ill, rows_of, Formed}
 use Rattle.containment.specs.Indexing.{Listed, Low}
 use Rattle.containment.specs.Rows.{Row, row, row_at, Among, Rises, Ranged}
-use Rattle.containment.specs.Checking.{unserved, at_follower, row_fault, rows_fault, or_else, rules_fault, begins, verdict}
+use Rattle.containment.specs.Checking.{unserved, at_follower, row_fault, rows_fault, or_else, verdict}
 use Rattle.containment.specs.Passes.{AllCoded, ComesAfter}
 use Rattle.containment.specs.Serving.{Marks, unserved_by}
 use Rattle.containment.specs.Stepping.{marked, places}
@@ -175,16 +175,12 @@ err_is None f e = absurd cc
 err_is (Some g) f e = cc
 
 -- The rows one after another.
-module _ (a b : Expr) (rows : List Row) (begun : true ≡ begins rows) (n : ℕ) (inv : rows_fault a b rows 0 rows ≡ rows_fault a b rows n (drop n rows)) where
-  begins_so : rules_fault a b rows ≡ rows_fault a b rows n (drop n rows)
-  begins_so = ap (λ c. cond c (rows_fault a b rows 0 rows) (Some Start)) (sym begun) ∙ inv
+module _ (a b : Expr) (rows : List Row) (n : ℕ) (inv : rows_fault a b rows 0 rows ≡ rows_fault a b rows n (drop n rows)) (lt : n < length rows) where
+  turn : (o : Option RowsFault) → row_fault a b rows n (row_at rows n) ≡ o → rows_fault a b rows n (drop n rows) ≡ or_else o (rows_fault a b rows (suc n) (drop (suc n) rows))
+  turn o e = rest_turn a b rows n lt ∙ ap (λ v. or_else v (rows_fault a b rows (suc n) (drop (suc n) rows))) e
 
-  module _ (lt : n < length rows) where
-    turn : (o : Option RowsFault) → row_fault a b rows n (row_at rows n) ≡ o → rows_fault a b rows n (drop n rows) ≡ or_else o (rows_fault a b rows (suc n) (drop (suc n) rows))
-    turn o e = rest_turn a b rows n lt ∙ ap (λ v. or_else v (rows_fault a b rows (suc n) (drop (suc n) rows))) e
+  pub rows_stop : (f : RowsFault) → Err f ≡ verdict (row_fault a b rows n (row_at rows n)) → Err f ≡ verdict (rows_fault a b rows 0 rows)
+  rows_stop f e = ap verdict (sym (inv ∙ turn (Some f) (err_is _ f e)))
 
-    pub rules_stop : (f : RowsFault) → Err f ≡ verdict (row_fault a b rows n (row_at rows n)) → Err f ≡ verdict (rules_fault a b rows)
-    rules_stop f e = ap verdict (sym (begins_so ∙ turn (Some f) (err_is _ f e)))
-
-    pub rules_turn : Ok tt ≡ verdict (row_fault a b rows n (row_at rows n)) → rows_fault a b rows 0 rows ≡ rows_fault a b rows (n + 1) (drop (n + 1) rows)
-    rules_turn e = let s : suc n ≡ n + 1 = omega arith in inv ∙ turn None (ok_is _ e) ∙ ap (λ k. rows_fault a b rows k (drop k rows)) s
+  pub rows_turn : Ok tt ≡ verdict (row_fault a b rows n (row_at rows n)) → rows_fault a b rows 0 rows ≡ rows_fault a b rows (n + 1) (drop (n + 1) rows)
+  rows_turn e = let s : suc n ≡ n + 1 = omega arith in inv ∙ turn None (ok_is _ e) ∙ ap (λ k. rows_fault a b rows k (drop k rows)) s

@@ -1,8 +1,7 @@
 -- An index of the rows of a list. This serves the proofs only.
-use Rattle.std.specs.Prelude.{◌≡◌, ℕ, ◌+◌, ◌<◌, ◌≤◌, List, length, take, drop, slice_index, IsPermutation}
+use Rattle.std.specs.Prelude.{◌≡◌, ℕ, suc, ◌<◌, ◌≤◌, List, length, drop, ◌≢◌, slice_index}
 use Rattle.std.specs.List.{All}
-use Rattle.std.specs.List.Sorted.{IsPartitionPoint}
-use Rattle.containment.specs.Rows.{Row, AllRanged}
+use Rattle.containment.specs.Rows.{Row, row_at, AllRanged}
 use Rattle.containment.specs.Format.{flat, rows_of, most_numbers}
 
 -- The numbers are those of rows whose places are 128 at most.
@@ -15,37 +14,30 @@ pub record Listed (rows : List Row) (ns : List ℕ) : Type 0 where
 abbrev pub Starts : List Row → List ℕ → ℕ → ℕ → Type 0
 Starts rows ns n s = flat (drop n rows) ≡ drop s ns
 
--- The set of the row that begins at index s.
-abbrev pub read_set : List ℕ → ℕ → List ℕ
-read_set ns s = take (slice_index ns (s + 1)) (drop (s + 2) ns)
-
 -- Each place is 128 at most.
 abbrev pub Low : List ℕ → Type 0
 Low places = All (λ p. p < 129) places
 
--- A row whose places are 128 at most stands from index s on.
-pub record RowFrom (ns : List ℕ) (s : ℕ) : Type 0 where
-  pub room : s + 2 + slice_index ns (s + 1) ≤ length ns
-  pub low : Low (read_set ns s)
+-- j is the first row from i on whose place is f, or the number of rows if there is none.
+pub record NextRow (rows : List Row) (f i j : ℕ) : Type 0 where
+  pub low : i ≤ j
+  pub high : j ≤ length rows
+  pub none : (n : ℕ) → i ≤ n → n < j → (row_at rows n).place ≢ f
+  pub here : j < length rows → (row_at rows j).place ≡ f
 
 -- The table has the start of each row below number n.
 abbrev pub AllStart : List Row → List ℕ → List ℕ → ℕ → Type 0
 AllStart rows ns starts n = (i : ℕ) → i < n → Starts rows ns i (slice_index starts i)
 
--- The list has the start of each row, in order.
-pub record Marked (ns starts : List ℕ) : Type 0 where
-  pub count : length starts ≡ length (rows_of ns)
-  pub few : length starts ≤ 8192
-  pub all : AllStart (rows_of ns) ns starts (length (rows_of ns))
+-- The tables link the rows from number n on.
+pub record Linked (rows : List Row) (nexts firsts : List ℕ) (n : ℕ) : Type 0 where
+  pub next : (i : ℕ) → n ≤ i → i < length rows → NextRow rows (row_at rows i).place (suc i) (slice_index nexts i)
+  pub first : (f : ℕ) → f < 129 → NextRow rows f n (slice_index firsts f)
 
--- The first i of the sorted starts are those of the rows with a place below f.
-pub record Below (ns sorted : List ℕ) (f i : ℕ) : Type 0 where
-  pub within : i ≤ length sorted
-  pub parted : IsPartitionPoint (λ s. slice_index ns s < f) (λ s. f ≤ slice_index ns s) sorted i
-
--- The starts of the rows, in order and sorted by the rows' places, and the table of how many have a lower place.
-pub record Indexed (ns starts sorted lower : List ℕ) : Type 0 where
+-- The number of rows, their starts, in order, and the links of the rows of each place.
+pub record Indexed (ns : List ℕ) (count : ℕ) (starts nexts firsts : List ℕ) : Type 0 where
   pub listed : Listed (rows_of ns) ns
-  pub marked : Marked ns starts
-  pub permuted : IsPermutation starts sorted
-  pub below : (f : ℕ) → f < 130 → Below ns sorted f (slice_index lower f)
+  pub counted : count ≡ length (rows_of ns)
+  pub few : count ≤ 8192
+  pub marked : AllStart (rows_of ns) ns starts (length (rows_of ns))
+  pub linked : Linked (rows_of ns) nexts firsts 0

@@ -1,21 +1,16 @@
 //! Where the rows of a list stand, in order and by place.
-ghost use Rattle.std.specs.Prelude.{◌≡◌, ◌<◌, ◌≤◌, ◌+◌, length, slice_index, slice_range, All, IsPermutation};
-ghost use Rattle.std.specs.List.Sorted.{IsNonDecreasingBy};
+ghost use Rattle.std.specs.Prelude.{◌≡◌, ◌<◌, ◌≤◌, ◌&&◌, ◌==◌, length, slice_index, slice_set};
 ghost use Rattle.containment.specs.Format.{rows_of};
-ghost use Rattle.containment.specs.Indexing.{Below, Indexed, Listed, Low, Marked, RowFrom, read_set};
+ghost use Rattle.containment.specs.Indexing.{AllStart, Indexed, Listed, Low};
 ghost use Rattle.containment.specs.Rows.{row_at};
 ghost use Rattle.containment.specs.Serving.{all_step, served_by};
+ghost use Rattle.containment.specs.Stepping.{marked};
 
 use crate::places::Codes;
 use crate::sets::{PLACES, Set};
-use arrayvec::ArrayVec;
-use std::array;
 
 /// The most rows of a list, each of which has two numbers or more.
 const ROWS: usize = 8192;
-
-/// The starts of rows.
-type Starts = ArrayVec<u16, ROWS>;
 
 /// A row: a place of the earlier layout, and a set of places of the later one.
 #[derive(Clone, Copy)]
@@ -24,59 +19,60 @@ pub(crate) struct Row<'a> {
     pub(crate) set: &'a [u16],
 }
 
-/// The rows of a list of numbers. The three arrays take some 34 KB on the stack in all.
+/// The rows of a list of numbers. The tables take some 33 KB on the stack, and as much again while they are filled and moved.
+// Kept: the number of rows stands for no row, since an Option for each row would double the table of next rows; and the rows of a place are
+// linked, since to sort them by place by comparisons is of a worse order.
 #[derive(Drop)]
 pub(crate) struct Index<'a> {
     pub(crate) numbers: &'a [u16],
+    /// The number of rows.
+    count: usize,
     /// The index at which each row begins.
-    starts: Starts,
-    /// The same, sorted by the places of the rows.
-    sorted: Starts,
-    /// How many rows have a lower place, for each place.
-    lower: [usize; PLACES + 1],
-    ghost indexed: { ∥ Indexed numbers.now starts.items sorted.items lower ∥₁ },
+    // Kept: an array beside the count and no ArrayVec, so that a call clears and moves no more than the two long tables, once.
+    starts: [u16; ROWS],
+    /// The next row with the same place, for each row.
+    nexts: [u16; ROWS],
+    /// The first row of each place.
+    firsts: [u16; PLACES],
+    ghost indexed: { ∥ Indexed numbers.now count starts nexts firsts ∥₁ },
 }
 
-/// The place of the row that begins at `start`; past the end of the list, 0.
-fn place_at(numbers: &[u16], start: u16) -> u16
-    ensures { result ≡ slice_index numbers.now start }
-{
-    // Kept: total, with 0 for no place, since a sort may call its key on any start.
-    numbers.get(usize::from(start)).copied().unwrap_or(0)
-}
-
-/// The index at which each row begins.
-fn starts(numbers: &[u16]) -> Starts
+/// Notes where each row begins, and tells how many rows there are.
+fn note_starts(numbers: &[u16], starts: &mut [u16; ROWS]) -> usize
     requires { Listed (rows_of numbers.now) numbers.now }
-    ensures { Marked numbers.now result.items }
+    ensures count { result ≡ length (rows_of numbers.now) }
+    ensures few { result ≤ ROWS }
+    ensures starts { AllStart (rows_of numbers.now) numbers.now starts.new (length (rows_of numbers.now)) }
 {
-    let mut starts = Starts::new();
+    let mut count = 0;
     let mut start = 0;
     // Kept: the index itself is noted, and goes on by a row's size; a slice peeled row by row would need it beside.
     while start < numbers.len() {
-        starts.push(start as u16);
+        starts[count] = start as u16;
+        count += 1;
         start += 2 + usize::from(numbers[start + 1]);
     }
-    starts
+    count
 }
 
-/// The starts, sorted by the places of the rows.
-fn sorted(numbers: &[u16], starts: &[u16]) -> Starts
-    requires { length starts.now ≤ ROWS }
-    ensures permuted { IsPermutation starts.now result.items }
-    ensures rising { IsNonDecreasingBy (slice_index numbers.now) result.items }
+/// Puts row `n` before the rows of its place that are linked.
+fn link(n: u16, place: usize, nexts: &mut [u16; ROWS], firsts: &mut [u16; PLACES])
+    requires row { n < ROWS }
+    requires place { place < PLACES }
+    ensures next { nexts.new ≡ slice_set nexts.old n (slice_index firsts.old place) }
+    ensures first { firsts.new ≡ slice_set firsts.old place n }
 {
-    let mut sorted = Starts::try_from(starts).unwrap();
-    sorted.sort_unstable_by_key(|start| place_at(numbers, *start));
-    sorted
+    nexts[usize::from(n)] = firsts[place];
+    firsts[place] = n;
 }
 
-/// How many of the sorted starts are those of rows with a lower place.
-fn rows_below(numbers: &[u16], sorted: &[u16], place: usize) -> usize
-    requires { IsNonDecreasingBy (slice_index numbers.now) sorted.now }
-    ensures { Below numbers.now sorted.now place result }
+/// Has the place the code, and is it in the table of followers?
+fn steps(place: u16, follow: &Set, codes: &Codes, code: u16) -> bool
+    requires { place < PLACES }
+    ensures { result ≡ ((slice_index codes.now place == code) && marked follow.now place) }
 {
-    sorted.partition_point(|start| usize::from(place_at(numbers, *start)) < place)
+    let place = usize::from(place);
+    codes[place] == code && follow[place]
 }
 
 /// Has each place the code, and is each in the table of followers?
@@ -85,10 +81,14 @@ fn all_step(places: &[u16], follow: &Set, codes: &Codes, code: u16) -> bool
     requires { Low places.now }
     ensures { result ≡ all_step follow.now codes.now code places.now }
 {
-    places.iter().all(|place| {
-        let place = usize::from(*place);
-        codes[place] == code && follow[place]
-    })
+    // Kept: the last place before the others, since the sets of a place may differ at their ends alone.
+    match places.split_last() {
+        Some((last, rest)) => {
+            steps(*last, follow, codes, code)
+                && rest.iter().all(|place| steps(*place, follow, codes, code))
+        }
+        None => true,
+    }
 }
 
 impl<'a> Index<'a> {
@@ -97,14 +97,21 @@ impl<'a> Index<'a> {
         requires { Listed (rows_of numbers.now) numbers.now }
         ensures { result.numbers.now ≡ numbers.now }
     {
-        let starts = starts(numbers);
-        let sorted = sorted(numbers, &starts);
-        let lower = array::from_fn(|place| rows_below(numbers, &sorted, place));
+        let mut starts = [0; ROWS];
+        let count = note_starts(numbers, &mut starts);
+        let mut nexts = [0; ROWS];
+        let mut firsts = [count as u16; PLACES];
+        // Kept: by number and from the last row to the first, so that the rows of a place are linked in rising order.
+        for n in (0..count).rev() {
+            let place = usize::from(numbers[usize::from(starts[n])]);
+            link(n as u16, place, &mut nexts, &mut firsts);
+        }
         Index {
             numbers,
+            count,
             starts,
-            sorted,
-            lower,
+            nexts,
+            firsts,
         }
     }
 
@@ -112,7 +119,7 @@ impl<'a> Index<'a> {
     pub(crate) fn count(&self) -> usize
         ensures { result ≡ length (rows_of self.now.numbers.now) }
     {
-        self.starts.len()
+        self.count
     }
 
     /// Row `n`.
@@ -122,32 +129,13 @@ impl<'a> Index<'a> {
         ensures set { result.set.now ≡ (row_at (rows_of self.now.numbers.now) n).set }
         ensures low { Low result.set.now }
     {
-        let start = self.starts[n];
-        Row {
-            place: place_at(self.numbers, start),
-            set: self.set_at(start),
-        }
-    }
-
-    /// The set of the row that begins at `start`.
-    fn set_at(&self, start: u16) -> &'a [u16]
-        requires { RowFrom self.now.numbers.now start }
-        ensures set { result.now ≡ read_set self.now.numbers.now start }
-        ensures low { Low result.now }
-    {
-        let start = usize::from(start);
+        let start = usize::from(self.starts[n]);
         let from = start + 2;
         let size = usize::from(self.numbers[start + 1]);
-        &self.numbers[from..from + size]
-    }
-
-    /// The starts of the rows for a place.
-    fn rows_for(&self, place: usize) -> &[u16]
-        requires { place < PLACES }
-        ensures rows { All (RowFrom self.now.numbers.now) result.now }
-        ensures sorted { result.now ≡ slice_range self.now.sorted.items (slice_index self.now.lower place) (slice_index self.now.lower (place + 1)) }
-    {
-        &self.sorted[self.lower[place]..self.lower[place + 1]]
+        Row {
+            place: self.numbers[start],
+            set: &self.numbers[from..from + size],
+        }
     }
 
     /// Is there a row for `f` each of whose places has the code and is in the table of followers?
@@ -155,8 +143,14 @@ impl<'a> Index<'a> {
         requires { f < PLACES }
         ensures { result ≡ served_by (rows_of self.now.numbers.now) follow.now codes.now code f }
     {
-        self.rows_for(f)
-            .iter()
-            .any(|start| all_step(self.set_at(*start), follow, codes, code))
+        let mut n = usize::from(self.firsts[f]);
+        // Kept: the rows of a place are linked, and no iterator of the library goes along links.
+        while n < self.count {
+            if all_step(self.row(n).set, follow, codes, code) {
+                return true;
+            }
+            n = usize::from(self.nexts[n]);
+        }
+        false
     }
 }

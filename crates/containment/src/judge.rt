@@ -1,9 +1,10 @@
 //! The judging of rows.
-ghost use Rattle.std.specs.Prelude.{◌≡◌, ◌<◌, ◌≤◌, ◌↔◌, length, find, Ok};
+ghost use Rattle.std.specs.Prelude.{◌≡◌, ◌<◌, ◌≤◌, ◌↔◌, length, find, None, Ok};
 ghost use Rattle.std.specs.List.{range_with_len};
 ghost use Rattle.expression.specs.Layouts.{expression_of, places_of};
-ghost use Rattle.containment.specs.Checking.{row_fault, rules_fault, verdict};
+ghost use Rattle.containment.specs.Checking.{row_fault, rows_fault, rules_fault, verdict};
 ghost use Rattle.containment.specs.Checking as checking;
+ghost use Rattle.containment.specs.Format.{ill, rows_of};
 ghost use Rattle.containment.specs.Rows.{row_at};
 ghost use Rattle.containment.specs.Scenes.{earlier_of, later_of, rows_in};
 ghost use Rattle.containment.specs.Serving.{unserved_by};
@@ -18,15 +19,16 @@ use crate::scene::Scene;
 use crate::sets;
 use expression::layout::Layout;
 
-impl Scene<'_> {
-    /// Is the first row the place 0 with the set of 0 alone?
-    fn begins(&self) -> bool
-        ensures { result ≡ checking.begins (rows_in self.now) }
-    {
-        let first = self.rows.row(0);
-        first.place == 0 && matches!(first.set, [0])
-    }
+/// Is the first row the place 0 with the set of 0 alone?
+fn begins(rows: &Index) -> bool
+    requires { 0 < length (rows_of rows.now.numbers.now) }
+    ensures { result ≡ checking.begins (rows_of rows.now.numbers.now) }
+{
+    let first = rows.row(0);
+    first.place == 0 && matches!(first.set, [0])
+}
 
+impl Scene<'_> {
     /// The lowest of the followers `here` that no row serves, where the places `there` follow the row's set.
     fn unserved(&self, here: &After, there: &After) -> Option<usize>
         ensures { result ≡ find (unserved_by (rows_in self.now) here.now.follow self.now.earlier.codes there.now.follow self.now.later.codes)
@@ -59,13 +61,10 @@ impl Scene<'_> {
         }
     }
 
-    /// Checks the rules: rule 1, then row by row.
-    fn check_rules(&self) -> Result<(), RowsFault>
-        ensures { result ≡ verdict (rules_fault (earlier_of self.now) (later_of self.now) (rows_in self.now)) }
+    /// Checks the rows one by one.
+    fn check_rows(&self) -> Result<(), RowsFault>
+        ensures { result ≡ verdict (rows_fault (earlier_of self.now) (later_of self.now) (rows_in self.now) 0 (rows_in self.now)) }
     {
-        if !self.begins() {
-            return Err(RowsFault::Start);
-        }
         for n in 0..self.rows.count() {
             self.check_row(n)?;
         }
@@ -73,13 +72,35 @@ impl Scene<'_> {
     }
 }
 
-/// Judges a list of rows from an earlier layout to a later one: accepted if it is well formed and keeps the rules, else refused by its first fault.
-pub fn judge_rows(earlier: &Layout, later: &Layout, rows: &[u16]) -> Result<(), RowsFault>
+/// Checks the rules on a well-formed list: rule 1, then row by row.
+fn check_rules(earlier: &Layout, later: &Layout, rows: &Index) -> Result<(), RowsFault>
+    requires { ill (places_of earlier.now) (places_of later.now) rows.now.numbers.now ≡ None }
+    ensures { result ≡ verdict (rules_fault (expression_of earlier.now) (expression_of later.now) (rows_of rows.now.numbers.now)) }
+{
+    // Kept: rule 1 before the scene is made, since it needs no codes.
+    if !begins(rows) {
+        return Err(RowsFault::Start);
+    }
+    Scene::new(earlier, later, rows).check_rows()
+}
+
+/// Judges a list of rows: its order, then the rules.
+fn judge(earlier: &Layout, later: &Layout, rows: &[u16]) -> Result<(), RowsFault>
     ensures judged { Judged (expression_of earlier.now) (expression_of later.now) rows.now result }
     ensures accepts { (result ≡ Ok tt) ↔ Admits (expression_of earlier.now) (expression_of later.now) rows.now }
     ensures sound { result ≡ Ok tt → Contained (expression_of earlier.now) (expression_of later.now) }
 {
     Counts::of(earlier, later).check(rows)?;
     let rows = Index::new(rows);
-    Scene::new(earlier, later, &rows).check_rules()
+    check_rules(earlier, later, &rows)
+}
+
+/// Judges a list of rows from an earlier layout to a later one: accepted if it is well formed and keeps the rules, else refused by its first fault.
+// Kept: thin over a proved one, so that an edit here is refused by this contract itself, at no file of proofs.
+pub fn judge_rows(earlier: &Layout, later: &Layout, rows: &[u16]) -> Result<(), RowsFault>
+    ensures judged { Judged (expression_of earlier.now) (expression_of later.now) rows.now result }
+    ensures accepts { (result ≡ Ok tt) ↔ Admits (expression_of earlier.now) (expression_of later.now) rows.now }
+    ensures sound { result ≡ Ok tt → Contained (expression_of earlier.now) (expression_of later.now) }
+{
+    judge(earlier, later, rows)
 }

@@ -33,6 +33,7 @@ impl<'a> Places<'a> {
     }
 
     /// What comes after the places of a set.
+    #[inline(always)]
     pub(crate) fn after(&self, set: &Set) -> After
         ensures { ComesAfter (nodes_of self.now.layout.now) set.now result }
     {
@@ -48,10 +49,12 @@ impl<'a> Places<'a> {
     }
 
     /// The places that have the code and follow one of the set.
+    #[inline(always)]
     pub(crate) fn step(&self, set: &Set, code: u16) -> Set
         ensures { Stepped (expression_of self.now.layout.now) set.now code PLACES result }
     {
         let after = self.after(set);
-        array::from_fn(|place| self.codes[place] == code && after.follow[place])
+        // Kept: both tests of each place, with no branch between them, which takes a third of the time.
+        array::from_fn(|place| (self.codes[place] == code) & after.follow[place])
     }
 }

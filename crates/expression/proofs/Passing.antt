@@ -1,11 +1,11 @@
 -- A whole walk along a layout.
-use Rattle.std.proofs.Common.{◌≡◌, ℕ, ◌+◌, ◌*◌, ◌<◌, ◌≤◌, true, false, ltb, List, [], ◌∷◌, ◌++◌, length, reverse, filter_map, set, Some, None, Ok, Option, is_some, sym, refl, ap, ◌∙◌, append_assoc, append-nil, zero-add, arith, length-append, le-ltb}
+use Rattle.std.proofs.Common.{◌≡◌, ℕ, ◌+◌, ◌*◌, ◌<◌, ◌≤◌, Bool, true, false, ltb, List, [], ◌∷◌, ◌++◌, length, reverse, filter_map, set, Some, None, Ok, Option, is_some, sym, refl, ap, ◌∙◌, append_assoc, append-nil, zero-add, arith, length-append, le-ltb}
 use Rattle.std.specs.Option.{option_map}
 use Rattle.std.proofs.lemmas.List.Elements.{filter_map-append}
 use borrow.Author.Tests.{clash}
 use Rattle.expression.specs.declared.walk.Walk.{Walk}
 use Rattle.expression.specs.declared.walk.Pending.{Pending}
-use Rattle.expression.specs.Coming.{due, along, dues, weight, Fits}
+use Rattle.expression.specs.Coming.{due, bare_after, along, dues, weight, Fits}
 use Rattle.expression.specs.Expressions.{Expr}
 use Rattle.expression.specs.Following.{to_come, left, Moved}
 use Rattle.expression.specs.Layouts.{nodes_of, expression_of}
@@ -16,22 +16,21 @@ use Rattle.expression.specs.Spelling.{codes, spelt_into}
 use Rattle.expression.specs.Trees.{Tree, spells}
 use Rattle.expression.specs.Turns.{Decoded, decode, whole}
 use Rattle.expression.specs.declared.layout.Layout.{Layout}
-use Rattle.expression.proofs.Along.{along_paid}
 use Rattle.expression.proofs.Sizes.{node_size}
 use Rattle.expression.proofs.Visiting.{at_once}
 use Rattle.expression.proofs.Writing.{written_append, written_all}
 
 -- What is spelled along one expression.
-along_one : (e : Expr) (ts : List ℕ) → along (due 0 e ∷ []) 0 ts ≡ codes e ts
-along_one e ts = along_paid [] 0 0 e ts (omega arith) ∙ by (decode e ts)
+along_one : (e : Expr) (ts : List ℕ) → along (due false e ∷ []) false ts ≡ codes e ts
+along_one e ts = by (decode e ts)
   where
-    ended : (t : Tree) (c : ℕ) (s : List ℕ) → option_map (λ w. spells t ++ w) (along [] c s) ≡ option_map spells (whole t s)
+    ended : (t : Tree) (c : Bool) (s : List ℕ) → option_map (λ w. spells t ++ w) (along [] c s) ≡ option_map spells (whole t s)
     ended t c [] = ap Some (append-nil (spells t))
     ended t c (x ∷ s) = refl
 
-    by : (o : Option Decoded) → and_then o (λ x. option_map (λ w. spells x.tree ++ w) (along [] (0 + length (spells x.tree)) x.rest)) ≡ option_map spells (and_then o (λ x. whole x.tree x.rest))
+    by : (o : Option Decoded) → and_then o (λ x. option_map (λ w. spells x.tree ++ w) (along [] (bare_after false (spells x.tree)) x.rest)) ≡ option_map spells (and_then o (λ x. whole x.tree x.rest))
     by None = refl
-    by (Some x) = ended x.tree (0 + length (spells x.tree)) x.rest
+    by (Some x) = ended x.tree (bare_after false (spells x.tree)) x.rest
 
 -- The root of a layout is all that is to come.
 module _ (l : Layout) (items : List Pending) (e : reverse items ≡ at_once (last (nodes_of l)) ∷ []) where
@@ -44,7 +43,7 @@ module _ (l : Layout) (items : List Pending) (e : reverse items ≡ at_once (las
   pub start_weight : weight (dues (nodes_of l) (reverse items)) ≤ 255
   start_weight = rw e (omega (arith, node_size l (last (nodes_of l)) inside, l.whole.1))
 
-  pub start_codes : (ts : List ℕ) → along (dues (nodes_of l) (reverse items)) 0 ts ≡ codes (expression_of l) ts
+  pub start_codes : (ts : List ℕ) → along (dues (nodes_of l) (reverse items)) false ts ≡ codes (expression_of l) ts
   start_codes ts = rw e (along_one (expression_of l) ts)
 
 -- A walk that has passed the codes in `done`, of those that the turns spell along the layout.

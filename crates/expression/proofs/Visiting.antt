@@ -39,19 +39,19 @@ pub two_on : (xs ys zs : List Pending) (p q p' q' : Pending) → ys ≡ xs ++ p 
 two_on xs ys zs p q p' q' e f g h = one_on ys zs p' q' g h ∙ ap (λ k. q' ∷ k) (one_on xs ys p q e f)
 
 abbrev pub at_once : ℕ → Pending
-at_once i = record { node = i; owed = 0 }
+at_once i = record { node = i; again = false }
 
--- What the visit of node i leaves: the nodes k and the turns ts are then to come.
-pub record Left (w : Walk) (i : ℕ) (k : List Pending) (ts : List ℕ) : Type 0 where
-  pub codes : to_come_by w i ≡ along (dues (nodes_of w.layout.now) k) w.letters ts
+-- What the visit of node i leaves: the nodes k and the turns ts are then to come, and b tells whether the last member has no letter so far.
+pub record Left (w : Walk) (i : ℕ) (k : List Pending) (b : Bool) (ts : List ℕ) : Type 0 where
+  pub codes : to_come_by w i ≡ along (dues (nodes_of w.layout.now) k) b ts
   pub less : 255 * length ts + weight (dues (nodes_of w.layout.now) k) < size (expr_of w i) + left w
   pub fits : Fits (nodes_of w.layout.now) k
 
 -- The walk's own facts after that.
-pub fits_left : {w : Walk} {i : ℕ} {k : List Pending} {ts : List ℕ} (items : List Pending) → Left w i k ts → reverse items ≡ k → ∥ Fits (nodes_of w.layout.now) (reverse items) ∥₁
+pub fits_left : {w : Walk} {i : ℕ} {k : List Pending} {b : Bool} {ts : List ℕ} (items : List Pending) → Left w i k b ts → reverse items ≡ k → ∥ Fits (nodes_of w.layout.now) (reverse items) ∥₁
 fits_left items x e = rw e (∣ x.fits ∣₁)
 
-pub small_left : {w : Walk} {i : ℕ} {k : List Pending} {ts : List ℕ} (items : List Pending) → Next w i → Left w i k ts → reverse items ≡ k
+pub small_left : {w : Walk} {i : ℕ} {k : List Pending} {b : Bool} {ts : List ℕ} (items : List Pending) → Next w i → Left w i k b ts → reverse items ≡ k
     → w.letters + (255 * length ts + weight (dues (nodes_of w.layout.now) (reverse items))) < 2 ^ 128
 small_left items next x e = rw e (omega (arith, x.less, next.small))
 
@@ -75,30 +75,30 @@ module _ (w : Walk) (i : ℕ) (next : Next w i) (here : Node) (read : here ≡ n
   lower : {s : Shape} → here.shape ≡ s → Lower i s
   lower p = lower_as w.layout.now i next.inside here read p
 
-  pub visit_pair : {j m : ℕ} → here.shape ≡ shape.Pair j m → Left w i (at_once j ∷ (at_once m ∷ stack)) w.turns.now
+  pub visit_pair : {j m : ℕ} → here.shape ≡ shape.Pair j m → Left w i (at_once j ∷ (at_once m ∷ stack)) w.bare w.turns.now
   visit_pair {j} {m} p =
       let h = next.inside in
       let low = lower p in
       let s : size (expr i) ≡ suc (size (expr j) + size (expr m)) = ap size (made p) in
       record {
-        codes = rw (made p) (along_pair (dues_of w) w.letters (expr j) (expr m) w.turns.now);
+        codes = rw (made p) (along_pair (dues_of w) w.bare (expr j) (expr m) w.turns.now);
         less = omega arith;
         fits = (omega arith, omega (arith, room), (omega arith, omega (arith, room), fits));
       }
 
-  pub visit_side : {j m : ℕ} → here.shape ≡ shape.Or j m → (b : Bool) (ts : List ℕ) → w.turns.now ≡ cond b 1 0 ∷ ts → Left w i (at_once (cond b m j) ∷ stack) ts
+  pub visit_side : {j m : ℕ} → here.shape ≡ shape.Or j m → (b : Bool) (ts : List ℕ) → w.turns.now ≡ cond b 1 0 ∷ ts → Left w i (at_once (cond b m j) ∷ stack) w.bare ts
   visit_side {j} {m} p true ts t =
       let h = next.inside in
       let low = lower p in
       let s : size (expr i) ≡ suc (size (expr j) + size (expr m)) = ap size (made p) in
-      record { codes = rw (made p, t) (along_right (dues_of w) w.letters (expr j) (expr m) ts); less = rw t (omega arith); fits = (omega arith, omega (arith, room), fits) }
+      record { codes = rw (made p, t) (along_right (dues_of w) w.bare (expr j) (expr m) ts); less = rw t (omega arith); fits = (omega arith, omega (arith, room), fits) }
   visit_side {j} {m} p false ts t =
       let h = next.inside in
       let low = lower p in
       let s : size (expr i) ≡ suc (size (expr j) + size (expr m)) = ap size (made p) in
-      record { codes = rw (made p, t) (along_left (dues_of w) w.letters (expr j) (expr m) ts); less = rw t (omega arith); fits = (omega arith, omega (arith, room), fits) }
+      record { codes = rw (made p, t) (along_left (dues_of w) w.bare (expr j) (expr m) ts); less = rw t (omega arith); fits = (omega arith, omega (arith, room), fits) }
 
-  pub visit_list : {j : ℕ} → here.shape ≡ shape.Star j → (ts : List ℕ) → w.turns.now ≡ 0 ∷ ts → Left w i (at_once j ∷ (record { node = i; owed = w.letters + 1 } ∷ stack)) ts
+  pub visit_list : {j : ℕ} → here.shape ≡ shape.Star j → (ts : List ℕ) → w.turns.now ≡ 0 ∷ ts → Left w i (at_once j ∷ (record { node = i; again = true } ∷ stack)) true ts
   visit_list {j} p ts t =
       let h = next.inside in
       let low = lower p in
@@ -106,8 +106,8 @@ module _ (w : Walk) (i : ℕ) (next : Next w i) (here : Node) (read : here ≡ n
       let n = node_size w.layout.now i h in
       record {
         codes = rw t
-            (ap (λ e. along (due 0 e ∷ dues_of w) w.letters (0 ∷ ts)) (made p) ∙ along_member (dues_of w) w.letters (expr j) ts
-            ∙ ap (λ e. along (due 0 (expr j) ∷ (due (w.letters + 1) e ∷ dues_of w)) w.letters ts) (sym (made p)));
+            (ap (λ e. along (due false e ∷ dues_of w) w.bare (0 ∷ ts)) (made p) ∙ along_member (dues_of w) w.bare (expr j) ts
+            ∙ ap (λ e. along (due false (expr j) ∷ (due true e ∷ dues_of w)) true ts) (sym (made p)));
         less = rw t (omega (arith, w.layout.now.whole.1));
         fits = (omega arith, omega (arith, room), (h, room, fits));
       }
@@ -120,7 +120,7 @@ module _ (w : Walk) (xs : List Pending) (p : Pending) (e : w.pending.items ≡ x
   stack_is : reverse w.pending.items ≡ p ∷ reverse xs
   stack_is = one_on xs w.pending.items p p e refl
 
-  dues_is : dues_of w ≡ due p.owed (expr_of w p.node) ∷ dues ns (reverse xs)
+  dues_is : dues_of w ≡ due p.again (expr_of w p.node) ∷ dues ns (reverse xs)
   dues_is = ap (dues ns) stack_is
 
   top_fits : Fits ns (p ∷ reverse xs)

@@ -1,5 +1,5 @@
 -- What is to come of a walk along a layout. This serves the proofs only: Spelling says what turns spell.
-use Rattle.std.specs.Prelude.{ℕ, suc, ◌+◌, ◌<◌, ◌≤◌, if◌then◌else◌, List, [], ◌∷◌, ◌++◌, length, nat_lt, Some, None, Option}
+use Rattle.std.specs.Prelude.{ℕ, suc, ◌+◌, ◌<◌, ◌≤◌, Bool, false, if◌then◌else◌, List, [], ◌∷◌, ◌++◌, length, Some, None, Option}
 use Rattle.std.specs.Option.{option_map}
 use Rattle.expression.specs.declared.node.Node.{Node}
 use Rattle.expression.specs.declared.walk.Pending.{Pending}
@@ -17,26 +17,35 @@ size (pair e f) = suc (size e + size f)
 size (or e f) = suc (size e + size f)
 size (star e) = suc (size e)
 
--- An expression that is to come once a number of letters is passed.
+-- An expression that is to come; again where it is a list after one of its members.
 pub record Due : Type 0 where
-  pub owed : ℕ
+  pub again : Bool
   pub expr : Expr
 
-abbrev pub due : ℕ → Expr → Due
-due o e = record { owed = o; expr = e }
+abbrev pub due : Bool → Expr → Due
+due a e = record { again = a; expr = e }
 
--- The codes that turns spell along what is due, where c letters are passed; nothing if they are no trees of it.
-abbrev pub along : List Due → ℕ → List ℕ → Option (List ℕ)
-along [] c [] = Some []
-along [] c (x ∷ ts) = None
-along (d ∷ k) c ts =
-    if nat_lt c d.owed then None
-    else and_then (decode d.expr ts) (λ x. option_map (λ w. spells x.tree ++ w) (along k (c + length (spells x.tree)) x.rest))
+-- Whether no letter is passed since the last member of a list began, b having told it before these codes.
+abbrev pub bare_after : Bool → List ℕ → Bool
+bare_after b [] = b
+bare_after b (c ∷ w) = false
+
+-- Whether what is due comes after a member without letters.
+abbrev pub spent : Due → Bool → Bool
+spent d b = if d.again then b else false
+
+-- The codes that turns spell along what is due, where b tells whether the last member that began has no letter so far; nothing if they are no trees of it.
+abbrev pub along : List Due → Bool → List ℕ → Option (List ℕ)
+along [] b [] = Some []
+along [] b (x ∷ ts) = None
+along (d ∷ k) b ts =
+    if spent d b then None
+    else and_then (decode d.expr ts) (λ x. option_map (λ w. spells x.tree ++ w) (along k (bare_after b (spells x.tree)) x.rest))
 
 -- What is due at the nodes to come, the next one first.
 abbrev pub dues : List Node → List Pending → List Due
 dues ns [] = []
-dues ns (p ∷ k) = due p.owed (expr_at ns p.node) ∷ dues ns k
+dues ns (p ∷ k) = due p.again (expr_at ns p.node) ∷ dues ns k
 
 abbrev pub weight : List Due → ℕ
 weight [] = 0

@@ -1,5 +1,5 @@
 -- The steps of a walk along a layout. This serves the proofs only: Spelling says what turns spell.
-use Rattle.std.specs.Prelude.{◌≡◌, ℕ, zero, suc, ◌+◌, ◌*◌, ◌^◌, ◌<◌, ◌≤◌, Bool, if◌then◌else◌, List, [], ◌∷◌, length, reverse, Some, None, Ok, Err, Option, Result}
+use Rattle.std.specs.Prelude.{◌≡◌, ℕ, zero, suc, ◌+◌, ◌*◌, ◌^◌, ◌<◌, ◌≤◌, Bool, false, if◌then◌else◌, List, [], ◌∷◌, length, reverse, Some, None, Ok, Err, Option, Result}
 use Rattle.std.specs.Option.{option_map}
 use Rattle.std.specs.Borrow.{Bor}
 use Rattle.expression.specs.declared.layout.Layout.{Layout}
@@ -17,7 +17,7 @@ dues_of w = dues (nodes_of w.layout.now) (reverse w.pending.items)
 
 -- The codes that a walk has still to pass.
 abbrev pub to_come : Walk → Option (List ℕ)
-to_come w = along (dues_of w) w.letters w.turns.now
+to_come w = along (dues_of w) w.bare w.turns.now
 
 -- At most how many steps are to come: a turn that is taken adds less than 255.
 abbrev pub left : Walk → ℕ
@@ -29,7 +29,7 @@ expr_of w i = expr_at (nodes_of w.layout.now) i
 
 -- The codes to come once the node i is on top.
 abbrev pub to_come_by : Walk → ℕ → Option (List ℕ)
-to_come_by w i = along (due 0 (expr_of w i) ∷ dues_of w) w.letters w.turns.now
+to_come_by w i = along (due false (expr_of w i) ∷ dues_of w) w.bare w.turns.now
 
 -- A walk that can go on by visiting the node i.
 pub record Next (w : Walk) (i : ℕ) : Type 0 where

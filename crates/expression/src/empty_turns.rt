@@ -39,6 +39,7 @@ impl Layout {
     }
 
     /// Writes the turns of the first tree without letters of the part that `node` ends into `turns` from `at` on, as far as there is room, and answers how many they are. None where the part has no such tree, or the layout no such node.
+    #[inline]
     pub fn put_empty_tree(&self, node: u8, turns: &mut [u8], at: usize) -> Option<u8>
         ensures count { result ≡ option_map length (empty_turns_at self.now node) }
         ensures buffer { turns.new ≡ written (unwrap_or (empty_turns_at self.now node) []) at turns.old }

@@ -30,6 +30,7 @@ pub struct Node {
 }
 
 /// The number of letter nodes up to the last of these nodes.
+#[inline]
 pub(crate) fn count_letters(nodes: &[Node]) -> u8
     ensures { result ≡ letters_of nodes.now }
 {

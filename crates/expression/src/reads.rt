@@ -8,6 +8,7 @@ use crate::node::{Node, count_letters};
 
 impl Layout {
     /// The nodes, children first.
+    #[inline]
     pub fn nodes(&self) -> &[Node]
         ensures { result.now ≡ nodes_of self.now }
     {
@@ -16,6 +17,7 @@ impl Layout {
 
     // Kept: each crate reads a node under a contract of its own, since no public function may ask that there is such a node.
     /// The node with number `i`.
+    #[inline]
     pub(crate) fn node(&self, i: u8) -> Node
         requires { i < length (nodes_of self.now) }
         ensures { result ≡ node (nodes_of self.now) i }
@@ -24,6 +26,7 @@ impl Layout {
     }
 
     /// The number of nodes.
+    #[inline]
     pub fn len(&self) -> usize
         ensures { result ≡ length (nodes_of self.now) }
     {
@@ -31,6 +34,7 @@ impl Layout {
     }
 
     /// The number of the last node, which ends the whole layout.
+    #[inline]
     pub fn root(&self) -> u8
         ensures { result ≡ last (nodes_of self.now) }
     {
@@ -38,6 +42,7 @@ impl Layout {
     }
 
     /// The number of places, which are the letter nodes.
+    #[inline]
     pub fn places(&self) -> u8
         ensures { result ≡ places_of self.now }
     {

@@ -1,5 +1,5 @@
 //! The steps of a walk along a layout.
-ghost use Rattle.std.specs.Prelude.{◌≡◌};
+ghost use Rattle.std.specs.Prelude.{◌≡◌, false};
 ghost use Rattle.expression.specs.Following.{Begun, Moved, Next, Turned, Visited};
 
 use crate::layout::Layout;
@@ -21,9 +21,9 @@ fn split_turn(turns: &[u8]) -> Result<(bool, &[u8]), NoTree>
 impl Pending {
     /// A node that may be visited at once.
     fn at_once(node: u8) -> Pending
-        ensures { result ≡ record { node = node; owed = 0 } }
+        ensures { result ≡ record { node = node; again = false } }
     {
-        Pending { node, owed: 0 }
+        Pending { node, again: false }
     }
 }
 
@@ -38,6 +38,7 @@ impl<'a> Walk<'a> {
             layout,
             turns,
             pending,
+            bare: false,
             letters: 0,
         }
     }
@@ -50,6 +51,7 @@ impl<'a> Walk<'a> {
         match self.layout.node(i).shape {
             Shape::Letter(code) => {
                 self.letters += 1;
+                self.bare = false;
                 return Ok(Some(code));
             }
             Shape::Empty => {}
@@ -69,9 +71,10 @@ impl<'a> Walk<'a> {
                 if !ends {
                     self.pending.push(Pending {
                         node: i,
-                        owed: self.letters + 1,
+                        again: true,
                     });
                     self.pending.push(Pending::at_once(child));
+                    self.bare = true;
                 }
             }
         }
@@ -82,8 +85,8 @@ impl<'a> Walk<'a> {
     pub(crate) fn next_code(&mut self) -> Result<Option<u16>, NoTree>
         ensures { Moved self.old result self.new }
     {
-        while let Some(Pending { node, owed }) = self.pending.pop() {
-            if self.letters < owed {
+        while let Some(Pending { node, again }) = self.pending.pop() {
+            if again && self.bare {
                 return Err(NoTree);
             }
             if let Some(code) = self.visit(node)? {

@@ -11,8 +11,8 @@ use arrayvec::ArrayVec;
 pub(crate) struct Pending {
     /// The node's number.
     pub(crate) node: u8,
-    /// How many letters the walk must have passed before it.
-    pub(crate) owed: u128,
+    /// Whether it is a list after one of its members, which must not be empty.
+    pub(crate) again: bool,
 }
 
 /// What is still to come of a walk, and how far it has come.
@@ -23,6 +23,8 @@ pub(crate) struct Walk<'a> {
     pub(crate) turns: &'a [u8],
     /// The nodes to come, the next one last.
     pub(crate) pending: ArrayVec<Pending, 255>,
+    /// Whether no letter is passed since the last member of a list began.
+    pub(crate) bare: bool,
     /// How many letters are passed.
     pub(crate) letters: u128,
     ghost fits: { ∥ Fits (nodes_of layout.now) (reverse pending.items) ∥₁ },

@@ -118,6 +118,6 @@ impl SkipList {
     pub(crate) fn has(&self, code: u16) -> bool
         ensures { result ≡ listed (codes_of self.now) code }
     {
-        self.codes.as_slice().contains(&code)
+        self.codes.as_slice().iter().any(|listed| *listed == code)
     }
 }

@@ -8,6 +8,12 @@ ghost use Rattle.matching.specs.Passes.{Entries, enters_in, usable};
 use expression::layout::Layout;
 use expression::node::{Node, Shape};
 
+/// A set of nodes: of each node, is it in the set?
+pub(crate) type NodeSet = [bool; 256];
+
+/// The set of no node.
+pub(crate) const NOWHERE: NodeSet = [false; 256];
+
 /// A layout, and which of its nodes a letter may be the first one in.
 /// The fields `code` and `next` tell contracts what the letter is; once the nodes are found, no code reads them.
 #[derive(Drop)]
@@ -18,8 +24,9 @@ pub(crate) struct Entered<'a> {
     /// A row, which tells which places can finish the letters after it.
     pub(crate) next: &'a [u8],
     /// Whether the letter may be the first one in the node with each number.
-    pub(crate) enterable: [bool; 256],
-    ghost right: { Entries layout.now code next.now enterable (length (nodes_of layout.now)) },
+    // Kept: lent, since a copy of the set for each letter, and one where no letter is left, would take more than what is done with it.
+    pub(crate) enterable: &'a NodeSet,
+    ghost right: { Entries layout.now code next.now enterable.now (length (nodes_of layout.now)) },
 }
 
 /// Does this row say that a place can finish the letters?
@@ -40,7 +47,7 @@ pub(crate) fn read(layout: &Layout, i: u8) -> Node
 }
 
 /// May a letter be the first one in node `i`? Which nodes below it may be entered stands in `told`.
-fn enters(layout: &Layout, code: u16, next: &[u8], told: &[bool; 256], i: u8) -> bool
+fn enters(layout: &Layout, code: u16, next: &[u8], told: &NodeSet, i: u8) -> bool
     requires inside { i < length (nodes_of layout.now) }
     requires below { Entries layout.now code next.now told.now i }
     ensures { result ≡ enters_in code (usable next.now) (held layout.now i) }
@@ -57,19 +64,31 @@ fn enters(layout: &Layout, code: u16, next: &[u8], told: &[bool; 256], i: u8) ->
     }
 }
 
+/// Notes of each node whether a letter with this code may be the first one in it, where `next` tells which places can finish the letters after it.
+#[tactic(auto, using(crate::proofs::Passes::enter_more))]
+pub(crate) fn note_entries(layout: &Layout, code: u16, next: &[u8], enterable: &mut NodeSet)
+    ensures { Entries layout.now code next.now enterable.new (length (nodes_of layout.now)) }
+{
+    // Kept: each answer looks up those of lower nodes by their numbers while it is noted.
+    for i in 0..layout.len() as u8 {
+        let may = enters(layout, code, next, enterable, i);
+        enterable[usize::from(i)] = may;
+    }
+}
+
 impl<'a> Entered<'a> {
-    /// The nodes that a letter with this code may be the first one in, where `next` tells which places can finish the letters after it.
-    #[tactic(auto, using(crate::proofs::Passes::enter_more))]
-    pub(crate) fn new(layout: &'a Layout, code: u16, next: &'a [u8]) -> Entered<'a>
+    /// A letter with this code, and the nodes that it may be the first one in, as they were noted.
+    pub(crate) fn new(
+        layout: &'a Layout,
+        code: u16,
+        next: &'a [u8],
+        enterable: &'a NodeSet,
+    ) -> Entered<'a>
+        requires { Entries layout.now code next.now enterable.now (length (nodes_of layout.now)) }
         ensures layout { result.layout.now ≡ layout.now }
         ensures code { result.code ≡ code }
         ensures next { result.next.now ≡ next.now }
     {
-        let mut enterable = [false; 256];
-        // Kept: each answer looks up those of lower nodes by their numbers while it is noted.
-        for i in 0..layout.len() as u8 {
-            enterable[usize::from(i)] = enters(layout, code, next, &enterable, i);
-        }
         Entered {
             layout,
             code,
@@ -90,7 +109,7 @@ impl<'a> Entered<'a> {
             layout,
             code: 0,
             next: &[],
-            enterable: [false; 256],
+            enterable: &NOWHERE,
         }
     }
 

@@ -38,8 +38,8 @@ fn tell<K: Kind>(
     Ok(walk::<K>(layout, letters, work, turns))
 }
 
-/// Reads `letters` under `layout`: fills `work`, writes the turns of the first tree to the start of `turns`, and answers their number.
-pub fn first_tree<K: Kind>(
+/// Reads `letters` under `layout`, as `first_tree` does.
+fn read_word<K: Kind>(
     layout: &Layout,
     letters: &[K::Letter],
     work: &mut [u8],
@@ -56,4 +56,17 @@ pub fn first_tree<K: Kind>(
     }
     fill::<K>(layout, letters, work);
     tell::<K>(layout, letters, work, turns)
+}
+
+/// Reads `letters` under `layout`: fills `work`, writes the turns of the first tree to the start of `turns`, and answers their number.
+// Kept: a call of a proved function alone, so that what goes wrong here is refused by this contract itself, with no file of proofs between.
+pub fn first_tree<K: Kind>(
+    layout: &Layout,
+    letters: &[K::Letter],
+    work: &mut [u8],
+    turns: &mut [u8],
+) -> Result<usize, MatchFault>
+    ensures { IsOutcome (expression_of layout.now) (map K.Kind.coded letters.now) work.old turns.old (record { answer = result; work = work.new; turned = turns.new }) }
+{
+    read_word::<K>(layout, letters, work, turns)
 }

@@ -5,7 +5,7 @@ ghost use Rattle.matching.specs.Holding.{whole};
 ghost use Rattle.matching.specs.Outcomes.{longest};
 ghost use Rattle.matching.specs.Walked.{Tabled, Walked};
 
-use crate::entered::Entered;
+use crate::entered::{Entered, NOWHERE, note_entries};
 use crate::rows::row_width;
 use crate::turns::Turns;
 use alphabet::kind::Kind;
@@ -28,9 +28,12 @@ pub(crate) fn walk<K: Kind>(
         buffer: turns,
         count: 0,
     };
+    let mut enterable = NOWHERE;
     let mut place = 0;
     for (letter, row) in letters.iter().zip(work[width..].chunks(width)) {
-        let entered = Entered::new(layout, K::code(*letter), row);
+        let code = K::code(*letter);
+        note_entries(layout, code, row, &mut enterable);
+        let entered = Entered::new(layout, code, row, &enterable);
         place = entered.step(place, &mut turns).unwrap();
     }
     Entered::nowhere(layout).step(place, &mut turns);

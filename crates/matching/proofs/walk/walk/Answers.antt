@@ -32,7 +32,7 @@ loop-letter-preserved g c =
       chunked = st.1.0 ∙ inv.chunked;
       on =
           on_step c.args.layout.now c.row_width-width.result c.row_width-width.ensures.is (map g.K.Kind.coded c.args.letters.now) inv.on (ap (map g.K.Kind.coded) st.0)
-          _ _ st.1.1.0 (rw inv.chunked at st.1.1.1) (gone_as c.loop-letter.place e.layout (e.code ∙ c.code.ensures) e.next c.step.ensures) c.unwrap-place.ensures;
+          _ _ st.1.1.0 (rw inv.chunked at st.1.1.1) (gone_as c.loop-letter.place e.layout (e.code ∙ c.code-code.ensures) e.next c.step.ensures) c.unwrap-place.ensures;
     }
 
 pub unwrap-place-requires : goal.unwrap-place-requires
@@ -41,7 +41,7 @@ unwrap-place-requires g c =
     let inv = c.loop-letter.invariant in
     let e = c.new-entered.ensures in
     on_leads c.args.layout.now c.row_width-width.result c.row_width-width.ensures.is (map g.K.Kind.coded c.args.letters.now) inv.on (ap (map g.K.Kind.coded) st.0)
-    _ _ st.1.1.0 (rw inv.chunked at st.1.1.1) (gone_as c.loop-letter.place e.layout (e.code ∙ c.code.ensures) e.next c.step.ensures)
+    _ _ st.1.1.0 (rw inv.chunked at st.1.1.1) (gone_as c.loop-letter.place e.layout (e.code ∙ c.code-code.ensures) e.next c.step.ensures)
 
 pub returns : goal.returns
 returns g c =

@@ -1,11 +1,11 @@
-use Rattle.std.proofs.Common.{Err, sym, ap, ◌∙◌}
+use Rattle.std.proofs.Common.{ℕ, List, Err, sym, ap, ◌∙◌}
 use Rattle.std.proofs.lemmas.Result.{err_from_is_err_and}
 use Rattle.expression.specs.Layouts.{expression_of}
 use Rattle.containment.specs.Checking.{rules_fault, verdict}
 use Rattle.containment.specs.Format.{rows_of}
 use Rattle.containment.proofs.Answering.{well, told_order, told_rules}
 use Rattle.containment.proofs.Tabled.{listed}
-use Rattle.containment.proofs.judge.judge_rows.Goals as goal
+use Rattle.containment.proofs.judge.judge.Goals as goal
 
 pub returns-in_err-check : goal.returns-in_err-check
 returns-in_err-check c =
@@ -20,9 +20,7 @@ returns c =
     let x =
     told_rules c.args.earlier.now c.args.later.now c.args.rows.now _ _ c.of.ensures.earlier c.of.ensures.later (sym c.in_ok-check.was ∙ c.check.ensures)
     c.check_rules.result
-    (
-    c.check_rules.ensures
-    ∙ λ i. verdict (rules_fault (expression_of (c.new.ensures.earlier i)) (expression_of (c.new.ensures.later i)) (rows_of ((c.new.ensures.rows ∙ c.new-rows.ensures) i)))
+    (c.check_rules.ensures ∙ ap (λ (ns : List ℕ). verdict (rules_fault (expression_of c.args.earlier.now) (expression_of c.args.later.now) (rows_of ns))) c.new-rows.ensures
     ) in
     record { judged = x.judged; accepts = x.accepts; sound = x.sound }
 

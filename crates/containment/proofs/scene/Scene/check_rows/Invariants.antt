@@ -1,7 +1,7 @@
 use Rattle.std.proofs.Common.{◌≡◌, drop}
 use Rattle.containment.specs.Checking.{rows_fault}
 use Rattle.containment.specs.Scenes.{earlier_of, later_of, rows_in}
-use Rattle.containment.proofs.scene.Scene.check_rules.Given as goal
+use Rattle.containment.proofs.scene.Scene.check_rows.Given as goal
 
 abbrev pub invariant-loop-n : goal.invariant-loop-n
 invariant-loop-n l =

@@ -1,7 +1,7 @@
 use Rattle.std.proofs.Common.{map}
 use Rattle.std.proofs.lemmas.List.{length-map}
 use Rattle.matching.proofs.Telling.{short_work, told_of}
-use Rattle.matching.proofs.reading.first_tree.Goals as goal
+use Rattle.matching.proofs.reading.read_word.Goals as goal
 
 pub returns-then-work-size : goal.returns-then-work-size
 returns-then-work-size g c =
