@@ -12,7 +12,8 @@ use expression::node::{Node, Shape};
 pub(crate) type NodeSet = [bool; 256];
 
 /// The set of no node.
-pub(crate) const NOWHERE: NodeSet = [false; 256];
+// Kept: a static, since a borrowed array of a function's own is cleared at each call.
+static NOWHERE: NodeSet = [false; 256];
 
 /// A layout, and which of its nodes a letter may be the first one in.
 /// The fields `code` and `next` tell contracts what the letter is; once the nodes are found, no code reads them.
@@ -105,12 +106,7 @@ impl<'a> Entered<'a> {
         ensures code { result.code ≡ 0 }
         ensures next { result.next.now ≡ [] }
     {
-        Entered {
-            layout,
-            code: 0,
-            next: &[],
-            enterable: &NOWHERE,
-        }
+        Entered::new(layout, 0, &[], &NOWHERE)
     }
 
     /// The number of the last node, which holds the whole expression.

@@ -8,7 +8,7 @@ ghost use Rattle.matching.specs.Passes.{RowAt, afters, bits, bits_in, reaches, u
 ghost use Rattle.matching.specs.Rows.{row};
 ghost use Rattle.matching.specs.Written.{written};
 
-use crate::entered::{Entered, NOWHERE, note_entries, read};
+use crate::entered::{Entered, note_entries, read};
 use expression::layout::Layout;
 use expression::node::Shape;
 
@@ -84,7 +84,7 @@ pub(crate) fn next_row(layout: &Layout, code: u16, bytes: &mut [u8])
     ensures { (w : List ℕ) → RowAt (whole layout.now) w (drop (letter_count (whole layout.now) + 1) bytes.old) → bytes.new ≡ written (row (whole layout.now) (code ∷ w)) bytes.old }
 {
     let (row, next) = bytes.split_at_mut(row_width(layout));
-    let mut enterable = NOWHERE;
+    let mut enterable = [false; 256];
     note_entries(layout, code, next, &mut enterable);
     Entered::new(layout, code, next, &enterable).fill_row(false, row);
 }

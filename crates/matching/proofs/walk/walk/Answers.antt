@@ -27,21 +27,19 @@ pub loop-letter-preserved : goal.loop-letter-preserved
 loop-letter-preserved g c =
     let st = c.in-Some.ensures.steps in
     let inv = c.loop-letter.invariant in
-    let e = c.new-entered.ensures in
     record {
       chunked = st.1.0 ∙ inv.chunked;
       on =
           on_step c.args.layout.now c.row_width-width.result c.row_width-width.ensures.is (map g.K.Kind.coded c.args.letters.now) inv.on (ap (map g.K.Kind.coded) st.0)
-          _ _ st.1.1.0 (rw inv.chunked at st.1.1.1) (gone_as c.loop-letter.place e.layout (e.code ∙ c.code-code.ensures) e.next c.step.ensures) c.unwrap-place.ensures;
+          _ _ st.1.1.0 (rw inv.chunked at st.1.1.1) (gone_as c.loop-letter.place refl c.code.ensures refl c.next_place.ensures) c.unwrap-place.ensures;
     }
 
 pub unwrap-place-requires : goal.unwrap-place-requires
 unwrap-place-requires g c =
     let st = c.in-Some.ensures.steps in
     let inv = c.loop-letter.invariant in
-    let e = c.new-entered.ensures in
     on_leads c.args.layout.now c.row_width-width.result c.row_width-width.ensures.is (map g.K.Kind.coded c.args.letters.now) inv.on (ap (map g.K.Kind.coded) st.0)
-    _ _ st.1.1.0 (rw inv.chunked at st.1.1.1) (gone_as c.loop-letter.place e.layout (e.code ∙ c.code-code.ensures) e.next c.step.ensures)
+    _ _ st.1.1.0 (rw inv.chunked at st.1.1.1) (gone_as c.loop-letter.place refl c.code.ensures refl c.next_place.ensures)
 
 pub returns : goal.returns
 returns g c =
@@ -51,5 +49,5 @@ returns g c =
     let ended =
     both_end c.args.layout.now c.row_width-width.result c.row_width-width.ensures.is w on
     (elim c.in-None.ensures.steps [ inl h ↦ inl (length-map (iter_rest (zip_first c.loop-letter.letter-iterator)) g.K.Kind.coded ∙ h.1.0) | inr h ↦ inr h.1.1.0 ]) in
-    on_end c.args.layout.now c.row_width-width.result c.row_width-width.ensures.is w on ended (rw length-map c.requires.short) (gone_as c.loop-letter.place e.layout e.code e.next c.step-2.ensures)
+    on_end c.args.layout.now c.row_width-width.result c.row_width-width.ensures.is w on ended (rw length-map c.requires.short) (gone_as c.loop-letter.place e.layout e.code e.next c.step.ensures)
     refl _ (λ h. search rules)
