@@ -1,3 +1,4 @@
+pub mod Alone
 pub mod Built
 pub mod Cutting
 pub mod Judge

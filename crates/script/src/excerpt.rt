@@ -6,28 +6,11 @@ ghost use Rattle.text.specs.Lines.{lines};
 use crate::source::{Excerpt, Source};
 use text::lines::lines;
 
-/// The first line, or nothing where the text has none.
-fn first_line<'a>(text: &'a [u8]) -> &'a [u8]
-    ensures { result.now ≡ slice_index_or (lines text.now) 0 [] }
-{
-    lines(text).next().unwrap_or(&[])
-}
-
 /// The line at an index, or nothing where the text has none.
-// Kept: one loop over the bytes, and no `nth` of the lines, which took up to twice the time for a script of short lines, each refused and looked up.
 fn line_at<'a>(text: &'a [u8], index: usize) -> &'a [u8]
     ensures { result.now ≡ slice_index_or (lines text.now) index [] }
 {
-    let mut left = index;
-    for (at, byte) in text.iter().enumerate() {
-        if left == 0 {
-            return first_line(&text[at..]);
-        }
-        if *byte == b'\n' {
-            left -= 1;
-        }
-    }
-    &[]
+    lines(text).nth(index).unwrap_or(&[])
 }
 
 /// The line with the number `line`, from 1, or nothing where the text has none.

@@ -71,21 +71,32 @@ fn show(line: Excerpt, out: &mut Vec<u8>) -> Result<(), AllocError>
     out.extend_from_slice(b"\n")
 }
 
+/// The excerpt of the line with this number: the first line of the line itself.
+// Kept: not looked up again in the script, which would take as many steps as bytes stand before the line.
+fn own_excerpt<'a>(setting: Setting<'a>, number: usize, line: &'a [u8]) -> Excerpt<'a>
+    requires { line.now ≡ numbered (lines setting.script.now) number }
+    ensures { result.bytes.now ≡ numbered (lines setting.entry.script.now) number }
+{
+    Excerpt {
+        line: number,
+        ..excerpt(line, setting.file, Source::Script, 1)
+    }
+}
+
 /// Adds a refusal of the line with this number, and the line itself where it holds no form.
 fn refuse(
     setting: Setting,
     number: usize,
+    line: &[u8],
     fault: LineFault,
     out: &mut Vec<u8>,
 ) -> Result<(), AllocError>
+    requires { line.now ≡ numbered (lines setting.script.now) number }
     ensures { OnOk result (out.new.items ≡ out.old.items ++ (refused_text (line_figures fault number) ++ excerpt_of fault (numbered (lines setting.entry.script.now) number))) }
 {
     tell(setting.heap, &fault.figures(number), out)?;
     match fault {
-        LineFault::Form(_) => show(
-            excerpt(setting.script, setting.file, Source::Script, number),
-            out,
-        ),
+        LineFault::Form(_) => show(own_excerpt(setting, number, line), out),
         LineFault::Call(_) | LineFault::TooLong => Ok(()),
     }
 }
@@ -108,7 +119,7 @@ fn respond<K: Dialect>(
     match answer(setting.heap, register, line) {
         Ok(answer) => tell(setting.heap, &answer, out),
         Err(fault) if fault.is_memory() => Err(AllocError),
-        Err(fault) => refuse(setting, number, fault, out),
+        Err(fault) => refuse(setting, number, line, fault, out),
     }
 }
 
